@@ -1,0 +1,165 @@
+-- Laws of tests and of lists: what a test tells, and who is a member. Assumes nothing.
+use Prim.Native.Nat.{ℕ, zero, suc, _+_, _≤_, _<_}
+use mathlib.Core.Path.{_≡_, refl, sym, ap, subst, _∙_}
+use mathlib.Core.List.{List, [], _∷_, flatMap, List·Memᴰ, List·Memᴰ·head, List·Memᴰ·tail, List·Memᴰ·not-nil, List·Memᴰ·cases-cons, List·Memᴰ·append-cases, Memᴰ·append-left, Memᴰ·append-right}
+use mathlib.Core.Logic.{_⊎_, inl, inr, ⊎-elim}
+use mathlib.Core.Bool.{Bool, true, false, not, _&&_, _||_}
+use native.Mathlib.Omega.{arith}
+use native.Mathlib.Nat.{eq-or-lt-of-le}
+use Rattle.lists.specs.Lists.{if_then_else_, upFrom, every, exists, keep, nonempty}
+
+-- A test's two cases.
+pub two-cases : (b : Bool) → (b ≡ true) ⊎ (b ≡ false)
+two-cases true = inl refl
+two-cases false = inr refl
+
+-- Two tests that pass together are equal.
+pub same-test : (a b : Bool) → (a ≡ true → b ≡ true) → (b ≡ true → a ≡ true) → a ≡ b
+same-test true b p q = sym (p refl)
+same-test false true p q = q refl
+same-test false false p q = refl
+
+-- A test doesn't both fail and pass.
+pub not-both : {b : Bool} {A : Type 0} → b ≡ true → b ≡ false → A
+not-both p q = let z : _≡_ {A = ℕ} 0 1 = cc in absurd (omega arith)
+
+pub both-true : (a b : Bool) → a && b ≡ true → (a ≡ true) × (b ≡ true)
+both-true true b e = (refl, e)
+both-true false b e = let z : _≡_ {A = ℕ} 0 1 = cc in absurd (omega arith)
+
+pub and-both : (a b : Bool) → a ≡ true → b ≡ true → a && b ≡ true
+and-both a b p q = rw (p, q)
+
+pub one-true : (a b : Bool) → a || b ≡ true → (a ≡ true) ⊎ (b ≡ true)
+one-true true b e = inl refl
+one-true false b e = inr e
+
+pub or-left : (a b : Bool) → a ≡ true → a || b ≡ true
+or-left a b p = rw p
+
+pub or-right : (a b : Bool) → b ≡ true → a || b ≡ true
+or-right true b p = refl
+or-right false b p = p
+
+module _ {A : Type 0} where
+  -- What is kept is in the list and passes the test, and the other way round.
+  pub kept-if : (b : Bool) {a x : A} {xs : List A} → List·Memᴰ a (if b then x ∷ xs else xs) → ((b ≡ true) × (a ≡ x)) ⊎ List·Memᴰ a xs
+  unfolding if_then_else_
+  kept-if true m = ⊎-elim (λ e. inl (refl, e)) (λ k. inr k) (List·Memᴰ·cases-cons m)
+  kept-if false m = inr m
+
+  pub keep-mem : (test : A → Bool) {a : A} (xs : List A) → List·Memᴰ a (keep test xs) → List·Memᴰ a xs × (test a ≡ true)
+  unfolding keep
+  keep-mem test [] m = absurd (List·Memᴰ·not-nil m)
+  keep-mem test {a} (x ∷ xs) m =
+      go (λ k. keep-mem test xs k) (kept-if (test x) m)
+    where
+      go : (List·Memᴰ a (keep test xs) → List·Memᴰ a xs × (test a ≡ true)) → ((test x ≡ true) × (a ≡ x)) ⊎ List·Memᴰ a (keep test xs) → List·Memᴰ a (x ∷ xs) × (test a ≡ true)
+      go below (inl p) = (List·Memᴰ·head (p .1), ap test (p .1) ∙ p .0)
+      go below (inr k) = (List·Memᴰ·tail ((below k) .0), (below k) .1)
+
+  pub mem-keep : (test : A → Bool) {a : A} (xs : List A) → List·Memᴰ a xs → test a ≡ true → List·Memᴰ a (keep test xs)
+  unfolding keep if_then_else_
+  mem-keep test [] m t = m
+  mem-keep test {a} (x ∷ xs) m t = go (λ k. mem-keep test xs k t) (test x) refl (List·Memᴰ·cases-cons m)
+    where
+      go : (List·Memᴰ a xs → List·Memᴰ a (keep test xs)) → (b : Bool) → test x ≡ b → (a ≡ x) ⊎ List·Memᴰ a xs → List·Memᴰ a (if b then x ∷ keep test xs else keep test xs)
+      go below true e (inl p) = List·Memᴰ·head p
+      go below true e (inr k) = List·Memᴰ·tail (below k)
+      go below false e (inl p) = let z : _≡_ {A = ℕ} 0 1 = cc (ap test p) in absurd (omega arith)
+      go below false e (inr k) = below k
+
+  -- A test over a list, as a statement on its members.
+  pub every-mem : (test : A → Bool) {a : A} (xs : List A) → every test xs ≡ true → List·Memᴰ a xs → test a ≡ true
+  unfolding every
+  every-mem test [] h m = absurd (List·Memᴰ·not-nil m)
+  every-mem test {a} (x ∷ xs) h m =
+      ⊎-elim (λ (p : a ≡ x). ap test p ∙ (both-true (test x) (every test xs) h) .0) (λ k. every-mem test xs ((both-true (test x) (every test xs) h) .1) k) (List·Memᴰ·cases-cons m)
+
+  pub mem-every : (test : A → Bool) (xs : List A) → ((a : A) → List·Memᴰ a xs → test a ≡ true) → every test xs ≡ true
+  unfolding every
+  mem-every test [] h = refl
+  mem-every test (x ∷ xs) h = and-both (test x) (every test xs) (h x (List·Memᴰ·head refl)) (mem-every test xs (λ a m. h a (List·Memᴰ·tail m)))
+
+  pub exists-mem : (test : A → Bool) (xs : List A) → exists test xs ≡ true → (a : A) × List·Memᴰ a xs × (test a ≡ true)
+  unfolding exists
+  exists-mem test [] h = let z : _≡_ {A = ℕ} 0 1 = cc in absurd (omega arith)
+  exists-mem test (x ∷ xs) h = go (λ k. exists-mem test xs k) (one-true (test x) (exists test xs) h)
+    where
+      go : (exists test xs ≡ true → (a : A) × List·Memᴰ a xs × (test a ≡ true)) → (test x ≡ true) ⊎ (exists test xs ≡ true) → (a : A) × List·Memᴰ a (x ∷ xs) × (test a ≡ true)
+      go below (inl p) = (x, List·Memᴰ·head refl, p)
+      go below (inr k) = let r = below k in (r .0, List·Memᴰ·tail (r .1), r .2)
+
+  pub mem-exists : (test : A → Bool) {a : A} (xs : List A) → List·Memᴰ a xs → test a ≡ true → exists test xs ≡ true
+  unfolding exists
+  mem-exists test [] m t = absurd (List·Memᴰ·not-nil m)
+  mem-exists test {a} (x ∷ xs) m t =
+      ⊎-elim (λ (p : a ≡ x). or-left (test x) (exists test xs) (ap test (sym p) ∙ t)) (λ k. or-right (test x) (exists test xs) (mem-exists test xs k t)) (List·Memᴰ·cases-cons m)
+
+-- A test over what is kept, as a test over the whole list; and two tests that agree on a list keep the same.
+module _ {A : Type 0} where
+  pub exists-keep : (test kept : A → Bool) (xs : List A) → exists test (keep kept xs) ≡ exists (λ x. kept x && test x) xs
+  unfolding exists keep
+  exists-keep test kept [] = refl
+  exists-keep test kept (x ∷ xs) = go (kept x) (exists-keep test kept xs)
+    where
+      go : (b : Bool) → exists test (keep kept xs) ≡ exists (λ x. kept x && test x) xs
+          → exists test (if b then x ∷ keep kept xs else keep kept xs) ≡ (b && test x || exists (λ x. kept x && test x) xs)
+      go true h = ap (λ (r : Bool). test x || r) h
+      go false h = h
+
+  pub every-keep : (test kept : A → Bool) (xs : List A) → every test (keep kept xs) ≡ every (λ x. not (kept x) || test x) xs
+  unfolding every keep
+  every-keep test kept [] = refl
+  every-keep test kept (x ∷ xs) = go (kept x) (every-keep test kept xs)
+    where
+      go : (b : Bool) → every test (keep kept xs) ≡ every (λ x. not (kept x) || test x) xs
+          → every test (if b then x ∷ keep kept xs else keep kept xs) ≡ ((not b || test x) && every (λ x. not (kept x) || test x) xs)
+      go true h = ap (λ (r : Bool). test x && r) h
+      go false h = h
+
+  pub keep-same : (f g : A → Bool) (xs : List A) → ((a : A) → List·Memᴰ a xs → f a ≡ g a) → keep f xs ≡ keep g xs
+  unfolding keep
+  keep-same f g [] h = refl
+  keep-same f g (x ∷ xs) h = rw (h x (List·Memᴰ·head refl), keep-same f g xs (λ a m. h a (List·Memᴰ·tail m)))
+
+-- Members of a list of lists laid end to end.
+module _ {A B : Type 0} where
+  pub flat-mem : (f : A → List B) {b : B} (xs : List A) → List·Memᴰ b (flatMap f xs) → (a : A) × List·Memᴰ a xs × List·Memᴰ b (f a)
+  unfolding flatMap
+  flat-mem f [] m = absurd (List·Memᴰ·not-nil m)
+  flat-mem f {b} (x ∷ xs) m = go (λ k. flat-mem f xs k) (List·Memᴰ·append-cases (f x) m)
+    where
+      go : (List·Memᴰ b (flatMap f xs) → (a : A) × List·Memᴰ a xs × List·Memᴰ b (f a)) → List·Memᴰ b (f x) ⊎ List·Memᴰ b (flatMap f xs) → (a : A) × List·Memᴰ a (x ∷ xs) × List·Memᴰ b (f a)
+      go below (inl k) = (x, List·Memᴰ·head refl, k)
+      go below (inr k) = let r = below k in (r .0, List·Memᴰ·tail (r .1), r .2)
+
+  pub mem-flat : (f : A → List B) {a : A} {b : B} (xs : List A) → List·Memᴰ a xs → List·Memᴰ b (f a) → List·Memᴰ b (flatMap f xs)
+  unfolding flatMap
+  mem-flat f [] m k = absurd (List·Memᴰ·not-nil m)
+  mem-flat f {a} {b} (x ∷ xs) m k =
+      ⊎-elim (λ (p : a ≡ x). Memᴰ·append-left (flatMap f xs) (subst (λ (y : A). List·Memᴰ b (f y)) p k)) (λ j. Memᴰ·append-right (f x) (mem-flat f xs j k)) (List·Memᴰ·cases-cons m)
+
+-- A list with a member is not empty, and the other way round.
+pub mem-nonempty : {A : Type 0} {x : A} (xs : List A) → List·Memᴰ x xs → nonempty xs ≡ true
+unfolding nonempty
+mem-nonempty [] m = absurd (List·Memᴰ·not-nil m)
+mem-nonempty (y ∷ xs) m = refl
+
+pub nonempty-mem : {A : Type 0} (xs : List A) → nonempty xs ≡ true → (x : A) × List·Memᴰ x xs
+unfolding nonempty
+nonempty-mem [] e = not-both e refl
+nonempty-mem (y ∷ xs) e = (y, List·Memᴰ·head refl)
+
+-- The k numbers from a on.
+pub upFrom-mem : (a k : ℕ) {n : ℕ} → List·Memᴰ n (upFrom a k) → (a ≤ n) × (n < a + k)
+unfolding upFrom
+upFrom-mem a zero m = absurd (List·Memᴰ·not-nil m)
+upFrom-mem a (suc k) {n} m =
+    ⊎-elim (λ (p : n ≡ a). omega arith) (λ j. let r = upFrom-mem (suc a) k j in omega arith) (List·Memᴰ·cases-cons m)
+
+pub mem-upFrom : (a k n : ℕ) → a ≤ n → n < a + k → List·Memᴰ n (upFrom a k)
+unfolding upFrom
+mem-upFrom a zero n p q = absurd (omega arith)
+mem-upFrom a (suc k) n p q =
+    ⊎-elim (λ (e : a ≡ n). List·Memᴰ·head (sym e)) (λ h. List·Memᴰ·tail (mem-upFrom (suc a) k n h (omega arith))) (eq-or-lt-of-le p)

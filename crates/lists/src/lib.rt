@@ -1,0 +1,1 @@
+// No code: lists of numbers, tests over lists, and their order (specs/), with laws (proofs/).

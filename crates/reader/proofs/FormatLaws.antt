@@ -1,0 +1,202 @@
+-- Laws of the readers of specs/Format.antt: what they give, which read alike, and how many levels a program needs. Assumes nothing.
+use Prim.Native.Nat.{ℕ, zero, suc, _+_, _-_, _*_, _^_, _≤_, _<_}
+use mathlib.Core.Path.{_≡_, refl, sym, subst, _∙_}
+use mathlib.Core.List.{List}
+use mathlib.Core.Bool.{Bool, true, false}
+use native.Mathlib.Omega.{arith}
+use native.Mathlib.Nat.{add-suc, mul-assoc, mul-le-mul-right, pow-succ'}
+use lib.Dec.{leb, ltb, eqb}
+use lib.ListN.{length}
+use borrow.Author.Tests.{ltb-true}
+use Rattle.lists.specs.Lists.{if_then_else_}
+use Rattle.reader.specs.Syntax.{Program, end, act, branch, actionNodes, branchNodes}
+use Rattle.reader.specs.Bits.{bitAt, bitsOnto, bitsAt}
+use Rattle.reader.specs.Format.{Read, got, fault, Reader, andThen, _>>=_, give, refuse, check, field, epistemic, ProgramRead, programBehind, programWithin}
+
+module _ {A : Type 0} (Q : A → Type 0) where
+  -- Everything that a reader gives has a property.
+  abbrev pub Gives : Reader A → Type 0
+  Gives m = (s : List ℕ) (p : ℕ) (a : A) (q : ℕ) → m s p ≡ got a q → Q a
+
+  -- Giving a value that has it.
+  pub gives-give : (a : A) → Q a → Gives (give a)
+  unfolding give
+  gives-give a h s p b q e = let k : a ≡ b = cc in subst Q k h
+
+  -- Refusing gives nothing.
+  pub gives-refuse : (r : ℕ) → Gives (refuse r)
+  unfolding refuse
+  gives-refuse r s p b q e = let z : _≡_ {A = ℕ} 0 1 = cc in absurd (omega arith)
+
+  -- The choice between two readers.
+  pub gives-if : (b : Bool) (m n : Reader A) → Gives m → Gives n → Gives (if b then m else n)
+  unfolding if_then_else_
+  gives-if true m n x y = x
+  gives-if false m n x y = y
+
+  -- Going on only if a test passes.
+  pub gives-check : (b : Bool) (r : ℕ) (m : Reader A) → (b ≡ true → Gives m) → Gives (check b r m)
+  unfolding check
+  gives-check true r m x = x refl
+  gives-check false r m x = gives-refuse r
+
+-- One reader behind another, of whose value something is known.
+pub gives-behind : {A B : Type 0} (P : A → Type 0) (Q : B → Type 0) (m : Reader A) (k : A → Reader B) → Gives P m → ((a : A) → P a → Gives Q (k a)) → Gives Q (m >>= k)
+unfolding _>>=_ andThen
+gives-behind {A = A} P Q m k x y s p b q e = go (m s p) refl e
+  where
+    go : (r : Read A) → m s p ≡ r → andThen r (λ a i. k a s i) ≡ got b q → Q b
+    go (got a i) l j = y a (x s p a i l) s i b q j
+    go (fault r) l j = let z : _≡_ {A = ℕ} 0 1 = cc in absurd (omega arith)
+
+-- Any value will do.
+abbrev Anything : {A : Type 0} → A → Type 0
+Anything a = Unit {0}
+
+-- One reader behind another, of whose value nothing is known.
+pub gives-any : {A B : Type 0} (Q : B → Type 0) (m : Reader A) (k : A → Reader B) → ((a : A) → Gives Q (k a)) → Gives Q (m >>= k)
+gives-any Q m k y = gives-behind Anything Q m k (λ s p a q e. tt) (λ a u. y a)
+
+-- Two readers read alike, wherever they read.
+abbrev pub Same : {A : Type 0} → Reader A → Reader A → Type 0
+Same m m′ = (s : List ℕ) (p : ℕ) → m s p ≡ m′ s p
+
+module _ {A : Type 0} where
+  -- The choice between two readers.
+  pub same-if : (b : Bool) (m m′ n n′ : Reader A) → Same m m′ → Same n n′ → Same (if b then m else n) (if b then m′ else n′)
+  unfolding if_then_else_
+  same-if true m m′ n n′ x y = x
+  same-if false m m′ n n′ x y = y
+
+  -- Going on only if a test passes.
+  pub same-check : (b : Bool) (r : ℕ) (m m′ : Reader A) → (b ≡ true → Same m m′) → Same (check b r m) (check b r m′)
+  unfolding check
+  same-check true r m m′ x = x refl
+  same-check false r m m′ x = λ s p. refl
+
+-- One reader behind another, of whose value something is known.
+pub same-behind : {A B : Type 0} (P : A → Type 0) (m m′ : Reader A) (k k′ : A → Reader B) → Gives P m → Same m m′ → ((a : A) → P a → Same (k a) (k′ a)) → Same (m >>= k) (m′ >>= k′)
+unfolding _>>=_ andThen
+same-behind {A = A} P m m′ k k′ x e y s p = rw (sym (e s p)) (go (m s p) refl)
+  where
+    go : (r : Read A) → m s p ≡ r → andThen r (λ a q. k a s q) ≡ andThen r (λ a q. k′ a s q)
+    go (got a q) l = y a (x s p a q l) s q
+    go (fault i) l = refl
+
+-- One reader behind another, of whose value nothing is known.
+same-any : {A B : Type 0} (m : Reader A) (k k′ : A → Reader B) → ((a : A) → Same (k a) (k′ a)) → Same (m >>= k) (m >>= k′)
+same-any m k k′ y = same-behind Anything m m k k′ (λ s p a q e. tt) (λ s p. refl) (λ a u. y a)
+
+-- Bits behind a number stay below what the next number would begin.
+onto-below : (s : List ℕ) (high p k : ℕ) → bitsOnto s high p k < (high + 1) * 2 ^ k
+unfolding bitsOnto bitAt
+onto-below s high p zero = omega arith
+onto-below s high p (suc k) =
+    let bit : high * 2 + bitAt s p + 1 ≤ (high + 1) * 2 = omega arith in
+    let twice : (high + 1) * 2 * 2 ^ k ≡ (high + 1) * 2 ^ suc k = rw (pow-succ', mul-assoc) in
+    omega (arith, onto-below s (high * 2 + bitAt s p) (p + 1) k, mul-le-mul-right (2 ^ k) bit)
+
+-- A number of k bits is below 2 ^ k.
+pub bits-below : (s : List ℕ) (p k : ℕ) → bitsAt s p k < 2 ^ k
+unfolding bitsAt
+bits-below s p k = omega (arith, onto-below s 0 p k)
+
+-- What a field of k bits gives is below 2 ^ k.
+pub field-below : (k : ℕ) → Gives (λ v. v < 2 ^ k) (field k)
+unfolding field if_then_else_
+field-below k s p v q e = go (leb (p + k) (8 * length s)) e
+  where
+    go : (b : Bool) → _≡_ {A = Read ℕ} (if b then got (bitsAt s p k) (p + k) else fault 2) (got v q) → v < 2 ^ k
+    go true h = let z : bitsAt s p k ≡ v = cc in omega (arith, bits-below s p k)
+    go false h = let z : _≡_ {A = ℕ} 0 1 = cc in absurd (omega arith)
+
+-- Every action number in a program is below k.
+unfoldable pub NumbersBelow : (k : ℕ) → Program → Type 0
+NumbersBelow k end = Unit {0}
+NumbersBelow k (act a rest) = (a < k) × NumbersBelow k rest
+NumbersBelow k (branch f p q rest) = NumbersBelow k p × NumbersBelow k q × NumbersBelow k rest
+
+-- What is counted up to a program's end: the nodes before it and its own, within the limits if those before it were. Its action numbers are below k.
+pub record Counts (k acts branches : ℕ) (c : ProgramRead) : Type 0 where
+  pub acts-counted : c .acts ≡ acts + actionNodes (c .program)
+  pub branches-counted : c .branches ≡ branches + branchNodes (c .program)
+  pub acts-within : acts ≤ 64 → c .acts ≤ 64
+  pub branches-within : branches ≤ 63 → c .branches ≤ 63
+  pub numbers : NumbersBelow k (c .program)
+
+-- One level of a program, whose parts count.
+module _ (n k : ℕ) (part : ℕ → ℕ → Reader ProgramRead) (counts : (acts branches : ℕ) → Gives (Counts k acts branches) (part acts branches)) (acts branches : ℕ) where
+  behind-counts : (tag : ℕ) → Gives (Counts k acts branches) (programBehind n k part acts branches tag)
+  unfolding programBehind actionNodes branchNodes NumbersBelow
+  behind-counts tag =
+      gives-if Q (eqb tag 0) _ _
+      (gives-give Q _ (record { acts-counted = omega arith; branches-counted = omega arith; acts-within = λ l. l; branches-within = λ l. l; numbers = tt }))
+      (gives-if Q (eqb tag 1) _ _
+      (gives-check Q (ltb acts 64) 11 _ (λ t. gives-any Q (field 5) _ (λ a. gives-check Q (ltb a k) 9 _ (λ u.
+      behind-part (acts + 1) branches _ (λ x hx.
+      gives-give Q _ (record {
+        acts-counted = omega arith;
+        branches-counted = omega arith;
+        acts-within = λ l. hx .acts-within (omega (arith, ltb-true acts 64 t));
+        branches-within = hx .branches-within;
+        numbers = (ltb-true a k u, hx .numbers);
+      }))))))
+      (gives-if Q (eqb tag 2) _ _
+      (gives-check Q (ltb branches 63) 11 _ (λ t. gives-any Q (epistemic n 16) _ (λ f.
+      behind-part acts (branches + 1) _ (λ x hx.
+      behind-part (x .acts) (x .branches) _ (λ y hy.
+      behind-part (y .acts) (y .branches) _ (λ z hz.
+      gives-give Q _ (record {
+        acts-counted = omega arith;
+        branches-counted = omega arith;
+        acts-within = λ l. hz .acts-within (hy .acts-within (hx .acts-within l));
+        branches-within = λ l. hz .branches-within (hy .branches-within (hx .branches-within (omega (arith, ltb-true branches 63 t))));
+        numbers = (hx .numbers, hy .numbers, hz .numbers);
+      })))))))
+      (gives-refuse Q 10)))
+    where
+      Q : ProgramRead → Type 0
+      Q = Counts k acts branches
+
+      behind-part : (a b : ℕ) (m : ProgramRead → Reader ProgramRead) → ((c : ProgramRead) → Counts k a b c → Gives Q (m c)) → Gives Q (part a b >>= m)
+      behind-part a b m y = gives-behind (Counts k a b) Q (part a b) m (counts a b) y
+
+  -- It is read alike with other parts that read alike where fewer nodes may still come.
+  behind-same : (part′ : ℕ → ℕ → Reader ProgramRead) → ((a b : ℕ) → (64 - a) + (63 - b) < (64 - acts) + (63 - branches) → Same (part a b) (part′ a b)) → (tag : ℕ)
+      → Same (programBehind n k part acts branches tag) (programBehind n k part′ acts branches tag)
+  unfolding programBehind
+  behind-same part′ alike tag =
+      same-if (eqb tag 0) _ _ _ _ (λ s p. refl)
+      (same-if (eqb tag 1) _ _ _ _
+      (same-check (ltb acts 64) 11 _ _ (λ t. same-any (field 5) _ _ (λ a. same-check (ltb a k) 9 _ _ (λ u.
+      same-part (acts + 1) branches (omega (arith, ltb-true acts 64 t)) _ _ (λ x hx s p. refl)))))
+      (same-if (eqb tag 2) _ _ _ _
+      (same-check (ltb branches 63) 11 _ _ (λ t. same-any (epistemic n 16) _ _ (λ f.
+      same-part acts (branches + 1) (omega (arith, ltb-true branches 63 t)) _ _ (λ x hx.
+      same-part (x .acts) (x .branches) (omega (arith, ltb-true branches 63 t)) _ _ (λ y hy.
+      same-part (y .acts) (y .branches) (omega (arith, ltb-true branches 63 t)) _ _ (λ z hz s p. refl))))))
+      (λ s p. refl)))
+    where
+      same-part : (a b : ℕ) → (64 - a) + (63 - b) < (64 - acts) + (63 - branches) → (m m′ : ProgramRead → Reader ProgramRead) → ((c : ProgramRead) → Counts k a b c → Same (m c) (m′ c))
+          → Same (part a b >>= m) (part′ a b >>= m′)
+      same-part a b fewer m m′ y = same-behind (Counts k a b) (part a b) (part′ a b) m m′ (counts a b) (alike a b fewer) y
+
+module _ (n k : ℕ) where
+  -- A program that is read counts its nodes.
+  pub program-counts : (d acts branches : ℕ) → Gives (Counts k acts branches) (programWithin n k d acts branches)
+  unfolding programWithin
+  program-counts zero acts branches = gives-refuse (Counts k acts branches) 11
+  program-counts (suc d) acts branches = gives-any (Counts k acts branches) (field 2) _ (behind-counts n k (programWithin n k d) (program-counts d) acts branches)
+
+  -- A program is read alike with one level more, where the levels exceed the action nodes and branch nodes that may still come.
+  pub enough-levels : (d acts branches : ℕ) → (64 - acts) + (63 - branches) < d → Same (programWithin n k (suc d) acts branches) (programWithin n k d acts branches)
+  unfolding programWithin
+  enough-levels zero acts branches h = absurd (omega arith)
+  enough-levels (suc d) acts branches h =
+      same-any (field 2) _ _
+      (behind-same n k (programWithin n k (suc d)) (program-counts (suc d)) acts branches (programWithin n k d) (λ a b i. enough-levels d a b (omega arith)))
+
+  -- So 128 levels are enough, whatever was read before.
+  pub more-levels : (d acts branches : ℕ) → Same (programWithin n k (128 + d) acts branches) (programWithin n k 128 acts branches)
+  more-levels zero acts branches s p = refl
+  more-levels (suc d) acts branches s p = rw add-suc (enough-levels (128 + d) acts branches (omega arith) s p ∙ more-levels d acts branches s p)

@@ -1,0 +1,69 @@
+-- Laws of states, of replies, and of what a theory leaves free. Assumes nothing.
+use Prim.Native.Nat.{ℕ, _<_, _^_}
+use mathlib.Core.Path.{_≡_, refl, ap}
+use mathlib.Core.List.{List·Memᴰ}
+use mathlib.Core.Bool.{true, not, _||_}
+use native.Mathlib.Omega.{arith}
+use native.Mathlib.Decide.{decLt}
+use lib.ListN.{length, List·getD-eq-default}
+use borrow.Author.Tests.{eqb-true, eq-eqb, ltb-true}
+use Rattle.lists.specs.Lists.{below, Sorted}
+use Rattle.lists.proofs.ListLaws.{not-both, or-left, or-right, keep-mem, mem-keep, mem-upFrom}
+use Rattle.lists.proofs.OrderLaws.{sorted-keep, sorted-upFrom}
+use Rattle.reader.specs.Syntax.{Objective, bottom, top, fact, new-fact, negation, conjunction, disjunction, equivalence, Action, change, probe, replyCount, Sheet}
+use Rattle.reader.specs.Truth.{isState, states, factIn, truth, holds, mentionsNew, moves, answers}
+
+module _ (sheet : Sheet) where
+  -- A state is below 2^n.
+  pub state-below : (s : ℕ) → isState sheet s ≡ true → s < 2 ^ sheet .facts
+  unfolding isState
+  state-below s e = ltb-true s (2 ^ sheet .facts) e
+
+  -- The listed states are the states, and are in order.
+  pub listed-state : {s : ℕ} → List·Memᴰ s (states sheet) → isState sheet s ≡ true
+  unfolding states
+  listed-state m = (keep-mem (isState sheet) (below (2 ^ sheet .facts)) m) .1
+
+  pub state-listed : (s : ℕ) → isState sheet s ≡ true → List·Memᴰ s (states sheet)
+  unfolding states
+  state-listed s e = mem-keep (isState sheet) (below (2 ^ sheet .facts)) (mem-upFrom 0 (2 ^ sheet .facts) s (omega arith) (omega (arith, state-below s e))) e
+
+  pub states-sorted : Sorted _<_ (states sheet)
+  unfolding states
+  states-sorted = sorted-keep _<_ (isState sheet) (below (2 ^ sheet .facts)) (sorted-upFrom 0 (2 ^ sheet .facts))
+
+-- A reply that an action gives is one of its replies.
+pub answer-exists : (a : Action) (r t : ℕ) → answers a r t ≡ true → r < replyCount a
+unfolding answers replyCount holds truth
+answer-exists (change theory) r t e = let z : r ≡ 0 = eqb-true r 0 e in omega arith
+answer-exists (probe replies) r t e = go (decLt r (length replies))
+  where
+    go : Dec (r < length replies) → r < length replies
+    go (yes p) = p
+    go (no p) = not-both e (ap (λ (f : Objective). holds f t) (List·getD-eq-default replies bottom {n = r} (omega arith)))
+
+-- The truth of a theory, and so the step of a change, depends on no other fact of the next state: "a fact that it doesn't mention as new is free".
+module _ (s t u : ℕ) where
+  abbrev Agree : (Objective → Type 0)
+  Agree f = (i : ℕ) → mentionsNew f i ≡ true → factIn t i ≡ factIn u i
+
+  left : (f g : Objective) → ((i : ℕ) → mentionsNew f i || mentionsNew g i ≡ true → factIn t i ≡ factIn u i) → (Agree f → truth f s t ≡ truth f s u) → truth f s t ≡ truth f s u
+  left f g h k = k (λ i m. h i (or-left (mentionsNew f i) (mentionsNew g i) m))
+
+  right : (f g : Objective) → ((i : ℕ) → mentionsNew f i || mentionsNew g i ≡ true → factIn t i ≡ factIn u i) → (Agree g → truth g s t ≡ truth g s u) → truth g s t ≡ truth g s u
+  right f g h k = k (λ i m. h i (or-right (mentionsNew f i) (mentionsNew g i) m))
+
+  truth-free : (f : Objective) → Agree f → truth f s t ≡ truth f s u
+  unfolding truth mentionsNew
+  truth-free bottom h = refl
+  truth-free top h = refl
+  truth-free (fact j) h = refl
+  truth-free (new-fact j) h = h j (eq-eqb j j refl)
+  truth-free (negation f) h = ap not (truth-free f h)
+  truth-free (conjunction f g) h = rw (left f g h (truth-free f), right f g h (truth-free g))
+  truth-free (disjunction f g) h = rw (left f g h (truth-free f), right f g h (truth-free g))
+  truth-free (equivalence f g) h = rw (left f g h (truth-free f), right f g h (truth-free g))
+
+  pub moves-free : (theory : Objective) → ((i : ℕ) → mentionsNew theory i ≡ true → factIn t i ≡ factIn u i) → moves (change theory) s t ≡ moves (change theory) s u
+  unfolding moves
+  moves-free theory h = truth-free theory h

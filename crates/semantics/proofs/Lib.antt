@@ -1,0 +1,9 @@
+pub mod RunLaws
+pub mod ProgressionLaws
+pub mod FollowLaws
+pub mod VerdictLaws
+pub mod ReplyLaws
+pub mod AcceptedLaws
+pub mod MemoryLaws
+pub mod CheckerLaws
+pub mod PrintingLaws

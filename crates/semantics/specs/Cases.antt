@@ -1,0 +1,130 @@
+-- The starred sample sheets of document 01, and its "Readings to reject", each table under one lemma that evaluates the definitions on every row.
+use Prim.Native.Nat.{ℕ, _-_}
+use mathlib.Core.List.{List, [], _∷_, _++_}
+use mathlib.Core.Path.{_≡_, refl}
+use lib.ListN.{length, replicate}
+use Rattle.reader.specs.Syntax.{Objective, top, fact, new-fact, negation, conjunction, disjunction, equivalence, Epistemic, known, not-known, any-of, Program, end, act, branch, Action, change, probe, Sheet}
+use Rattle.reader.specs.Format.{Answer, accepted, refused, reading}
+use Rattle.semantics.specs.Verdict.{Verdict, valid, invalid, stopped, outcome, longestTrace, verified}
+use Rattle.semantics.specs.Replies.{reported}
+use Rattle.semantics.specs.Printing.{printed}
+
+-- A row: the bytes of a sheet, the budget, the verifier's answer, and the trace that it shows.
+pub record Row : Type 0 where
+  pub bytes : List ℕ
+  pub budget : ℕ
+  pub answer : Answer Verdict
+  pub shown : List ℕ
+
+-- Trace memory that begins with some bytes and keeps its old ones behind them.
+abbrev pub memoryWith : List ℕ → List ℕ
+memoryWith shown = shown ++ replicate (longestTrace - length shown) 0xEE
+
+-- Every row of a table holds, the memory's bytes included.
+abbrev pub AllHold : List Row → Type 0
+AllHold [] = Unit {0}
+AllHold (r ∷ rest) =
+    (verified (r .bytes) (r .budget) (memoryWith []) ≡ record { answer = r .answer; memory = memoryWith (r .shown) }) × AllHold rest
+
+-- "The budget is 1,000,000 where none is given."
+abbrev pub within : (budget : ℕ) (bytes : List ℕ) → Answer Verdict → (shown : List ℕ) → Row
+within budget bytes answer shown = record { bytes = bytes; budget = budget; answer = answer; shown = shown }
+
+abbrev pub row : (bytes : List ℕ) → Answer Verdict → (shown : List ℕ) → Row
+row = within 1_000_000
+
+-- Cases 1 and 2.
+abbrev pub sheet1 : List ℕ
+sheet1 = 0x11 ∷ 0x0C ∷ 0x90 ∷ 0x88 ∷ 0x1C ∷ 0x40 ∷ 0x88 ∷ 0x20 ∷ 0x00 ∷ []
+
+abbrev pub sheet2 : List ℕ
+sheet2 = 0x11 ∷ 0x0C ∷ 0x90 ∷ 0x88 ∷ 0x11 ∷ 0x04 ∷ 0x00 ∷ []
+
+-- Cases 9 and 10: Example 1 of source document 000 (2012), whose actions are numbered in the order in which it mentions them: 0 is test(x1 ↔ x2),
+-- 1 is test(x1 ∧ x2), 2 is switch(x1).
+abbrev pub sheet9 : List ℕ
+sheet9 =
+    0x12 ∷ 0x1C ∷ 0xBA ∷ 0x08 ∷ 0xCE ∷ 0x82 ∷ 0x32 ∷ 0xA8 ∷ 0x23 ∷ 0x2A ∷ 0x08 ∷ 0xAF ∷ 0x62 ∷ 0x21 ∷ 0xD9 ∷ 0x44
+    ∷ 0xE5 ∷ 0x41 ∷ 0x12 ∷ 0x54 ∷ 0x11 ∷ 0x41 ∷ 0x1D ∷ 0x04 ∷ 0x50 ∷ 0x88 ∷ 0x90 ∷ 0x80 ∷ []
+
+abbrev pub sheet10 : List ℕ
+sheet10 =
+    0x12 ∷ 0x1C ∷ 0xBA ∷ 0x08 ∷ 0xCE ∷ 0x82 ∷ 0x32 ∷ 0xA8 ∷ 0x23 ∷ 0x2A ∷ 0x08 ∷ 0xAF ∷ 0x62 ∷ 0x21 ∷ 0xD9 ∷ 0x44
+    ∷ 0x95 ∷ 0x04 ∷ 0x50 ∷ 0x47 ∷ 0x41 ∷ 0x14 ∷ 0x22 ∷ 0x24 ∷ 0x20 ∷ []
+
+-- Case 11.
+abbrev pub sheet11 : List ℕ
+sheet11 = 0x11 ∷ 0x01 ∷ 0x10 ∷ 0x00 ∷ []
+
+-- What the bytes of cases 9 and 10 say.
+abbrev pub example : (goal : Epistemic) → Sheet
+example goal =
+    let x1 : Objective = fact 0 in
+    let x2 : Objective = fact 1 in
+    let test : Objective → Action = λ f. probe (f ∷ negation f ∷ []) in
+    record {
+      facts = 2;
+      actions = test (equivalence x1 x2) ∷ test (conjunction x1 x2) ∷ change (conjunction (equivalence (new-fact 0) (negation x1)) (equivalence (new-fact 1) x2)) ∷ [];
+      start = top;
+      goal = goal;
+      program = act 0 (branch (known (equivalence x1 x2)) (act 1 end) (act 2 (act 1 end)) end);
+    }
+
+pub sheet9-says : reading sheet9 ≡ accepted (example (any-of (known (conjunction (fact 0) (fact 1))) (known (negation (conjunction (fact 0) (fact 1))))))
+unfolding reading
+sheet9-says = refl
+
+pub sheet10-says : reading sheet10 ≡ accepted (example (known (conjunction (fact 0) (fact 1))))
+unfolding reading
+sheet10-says = refl
+
+-- Cases 1 to 11, in order; 1 and 10 have a second budget.
+abbrev pub starred : List Row
+starred =
+    row sheet1 (accepted (valid 2)) []
+    ∷ within 1 sheet1 (accepted (stopped 1)) []
+    ∷ row sheet2 (accepted (invalid 2 1)) (0x00 ∷ 0x01 ∷ 0x00 ∷ [])
+    ∷ row (0x11 ∷ 0x0C ∷ 0x90 ∷ 0x88 ∷ 0x1C ∷ 0x40 ∷ 0x88 ∷ 0x20 ∷ 0x01 ∷ []) (refused 12) []
+    ∷ row (sheet1 ++ (0x00 ∷ [])) (refused 12) []
+    ∷ row [] (refused 2) []
+    ∷ row (0x21 ∷ []) (refused 3) []
+    ∷ row (0x10 ∷ []) (refused 4) []
+    ∷ row (0x19 ∷ []) (refused 4) []
+    ∷ row sheet9 (accepted (valid 7)) []
+    ∷ row sheet10 (accepted (invalid 3 2)) (0x00 ∷ 0x00 ∷ 0x00 ∷ 0x09 ∷ 0x00 ∷ [])
+    ∷ within 2 sheet10 (accepted (stopped 2)) []
+    ∷ row sheet11 (accepted (invalid 0 0)) (0x00 ∷ [])
+    ∷ []
+
+pub starred-hold : AllHold starred
+unfolding verified
+starred-hold = (refl, (refl, (refl, (refl, (refl, (refl, (refl, (refl, (refl, (refl, (refl, (refl, (refl, tt)))))))))))))
+
+-- "For the sheet of case 2 the whole output is `invalid 2 1` and `00 01 00`."
+pub sheet2-prints : printed sheet2
+    ≡ 0x69 ∷ 0x6E ∷ 0x76 ∷ 0x61 ∷ 0x6C ∷ 0x69 ∷ 0x64 ∷ 0x20 ∷ 0x32 ∷ 0x20 ∷ 0x31 ∷ 0x0A
+    ∷ 0x30 ∷ 0x30 ∷ 0x20 ∷ 0x30 ∷ 0x31 ∷ 0x20 ∷ 0x30 ∷ 0x30 ∷ 0x0A ∷ []
+unfolding printed
+sheet2-prints = refl
+
+-- "Readings to reject": a small sheet for each, on which the rejected reading would answer otherwise.
+abbrev pub small : (facts : ℕ) (actions : List Action) (start : Objective) (goal : Epistemic) → Program → Sheet
+small facts actions start goal program = record { facts = facts; actions = actions; start = start; goal = goal; program = program }
+
+abbrev pub Readings : Type 0
+Readings =
+    -- The else-program is taken though neither the condition nor its negation is known.
+    (outcome (small 1 (change (new-fact 0) ∷ []) top (known (fact 0)) (branch (known (fact 0)) end (act 0 end) end)) 9 ≡ record { verdict = valid 1; shown = [] })
+    -- An unmentioned new fact is free.
+    × (outcome (small 2 (change (new-fact 0) ∷ []) (negation (disjunction (fact 0) (fact 1))) (known (negation (fact 1))) (act 0 end)) 9
+    ≡ record { verdict = invalid 1 1; shown = 0 ∷ 0 ∷ 1 ∷ [] })
+    -- "Known (a or b)" needs neither a nor b known.
+    × (outcome (small 1 [] top (known (disjunction (fact 0) (negation (fact 0)))) end) 9 ≡ record { verdict = valid 0; shown = [] })
+    -- The goal is not tested in the run's own state: in a run that ends in state 1 fact 0 is true, and not known.
+    × (outcome (small 1 [] top (not-known (fact 0)) end) 9 ≡ record { verdict = valid 0; shown = [] })
+    -- A report is accepted though one of the states still possible denies the reply.
+    × (reported (small 1 (probe (fact 0 ∷ negation (fact 0) ∷ []) ∷ []) top (known top) (act 0 end)) [] 0 ≡ accepted (0 ∷ []))
+
+pub readings-hold : Readings
+unfolding outcome reported
+readings-hold = (refl, refl, refl, refl, refl)

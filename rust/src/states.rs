@@ -1,0 +1,57 @@
+//! States, the state space and sets of states.
+
+use crate::sheet::Sheet;
+
+/// A valuation of the facts: fact i has weight 2^i.
+pub type State = u8;
+
+/// The state space of a sheet, in increasing order.
+pub fn states(sheet: &Sheet) -> impl Iterator<Item = State> {
+    let last = ((1u16 << sheet.facts) - 1) as u8;
+    0..=last
+}
+
+/// Whether a byte is one of the sheet's states.
+pub fn is_state(sheet: &Sheet, byte: u8) -> bool {
+    states(sheet).any(|state| state == byte)
+}
+
+/// A set of states: state s has weight 2^(s mod 64) in word s div 64.
+#[derive(Clone, Copy, Debug, Default, PartialEq, Eq)]
+pub struct StateSet([u64; 4]);
+
+impl StateSet {
+    pub fn insert(&mut self, state: State) {
+        self.0[usize::from(state / 64)] |= 1 << (state % 64);
+    }
+
+    pub fn contains(&self, state: State) -> bool {
+        self.0[usize::from(state / 64)] >> (state % 64) & 1 == 1
+    }
+
+    pub fn is_empty(&self) -> bool {
+        self.0 == [0; 4]
+    }
+
+    /// The members, in increasing order.
+    pub fn iter(&self) -> impl Iterator<Item = State> + '_ {
+        self.0.iter().enumerate().flat_map(|(index, &word)| {
+            let mut left = word;
+            std::iter::from_fn(move || {
+                let bit = left.trailing_zeros();
+                left &= left.checked_sub(1)?;
+                Some((64 * index as u32 + bit) as u8)
+            })
+        })
+    }
+}
+
+impl FromIterator<State> for StateSet {
+    fn from_iter<I: IntoIterator<Item = State>>(members: I) -> StateSet {
+        let mut set = StateSet::default();
+        for state in members {
+            set.insert(state);
+        }
+        set
+    }
+}

@@ -1,0 +1,126 @@
+//! The two commands as a user runs them.
+
+mod common;
+
+use std::fs;
+use std::io::Write;
+use std::path::PathBuf;
+use std::process::{Command, Stdio};
+
+use common::{unhex, verdict};
+use recovery::print::lines;
+use recovery::read::read;
+use recovery::refusal::Refusal;
+use recovery::verify::Answer;
+
+fn planverify(sheet: &[u8]) -> String {
+    let mut child = Command::new(env!("CARGO_BIN_EXE_planverify"))
+        .stdin(Stdio::piped())
+        .stdout(Stdio::piped())
+        .spawn()
+        .expect("planverify starts");
+    let mut input = child.stdin.take().expect("a pipe");
+    input.write_all(sheet).expect("planverify reads its input");
+    drop(input);
+    let output = child.wait_with_output().expect("planverify ends");
+    assert!(output.status.success());
+    String::from_utf8(output.stdout).expect("ASCII")
+}
+
+#[test]
+fn printed_lines() {
+    let memory = [0x0a, 0xff, 0xb0, 0x00, 0x9c, 0x77];
+    let printed = |answer| String::from_utf8(lines(&answer, &memory)).expect("ASCII");
+    let (count, length) = (u32::MAX, 2);
+    assert_eq!(
+        printed(Answer::Invalid { count, length }),
+        "invalid 4294967295 2\n0a ff b0 00 9c\n"
+    );
+    assert_eq!(printed(Answer::Valid { count: 10 }), "valid 10\n");
+    assert_eq!(printed(Answer::Stopped { budget: 0 }), "stopped 0\n");
+    assert_eq!(
+        printed(Answer::Refused(Refusal::TraceMemory)),
+        "refused 30\n"
+    );
+}
+
+#[test]
+fn samples_through_the_command() {
+    let directory = PathBuf::from(env!("CARGO_MANIFEST_DIR")).join("../samples");
+    let mut checked = 0;
+    for entry in fs::read_dir(directory).expect("a directory") {
+        let path = entry.expect("an entry").path();
+        if path.extension().is_some_and(|extension| extension == "hex") {
+            let sheet = unhex(&fs::read_to_string(&path).expect("a text file"));
+            let expected = fs::read_to_string(path.with_extension("out")).expect("a text file");
+            assert_eq!(planverify(&sheet), expected, "{}", path.display());
+            checked += 1;
+        }
+    }
+    assert_eq!(checked, 17);
+}
+
+#[test]
+fn long_input() {
+    assert_eq!(planverify(&vec![0x11; 300_000]), "refused 1\n");
+}
+
+#[test]
+fn stopped_names_the_budget() {
+    // A probe with two replies "true", done 20 times: 2^21 - 2 histories.
+    let head = "0001 0001 00001 1 0010 001 001 001 00 001";
+    let program = ["01 00000".repeat(20), "00".into()].concat();
+    let sheet = common::unbits(&[head, &program].concat());
+    assert!(read(&sheet).is_ok());
+    assert_eq!(planverify(&sheet), "stopped 1000000\n");
+}
+
+fn rows(seed: &str, count: &str) -> String {
+    let output = Command::new(env!("CARGO_BIN_EXE_rows"))
+        .args([seed, count])
+        .output()
+        .expect("rows runs");
+    assert!(output.status.success());
+    String::from_utf8(output.stdout).expect("ASCII")
+}
+
+#[test]
+fn rows_hold_what_the_verifier_says() {
+    let text = rows("5", "500");
+    assert_eq!(text.lines().count(), 500);
+    assert_eq!(text, rows("5", "500"));
+    assert_ne!(text, rows("6", "500"));
+    for row in text.lines() {
+        let fields: Vec<&str> = row.split(';').collect();
+        let &[sheet, budget, answer, trace, talks, checks] = &fields[..] else {
+            panic!("not six fields: {row}");
+        };
+        let (expected, shown) = verdict(&unhex(sheet), budget.parse().expect("a number"));
+        let expected_answer = match expected {
+            Answer::Valid { count } => format!("valid {count}"),
+            Answer::Invalid { count, length } => format!("invalid {count} {length}"),
+            Answer::Stopped { budget } => format!("stopped {budget}"),
+            Answer::Refused(refusal) => format!("refused {}", refusal.number()),
+        };
+        assert_eq!(answer, expected_answer);
+        assert_eq!(unhex(trace), shown.unwrap_or_default());
+        let refused = matches!(expected, Answer::Refused(_));
+        assert_eq!(talks.is_empty(), refused);
+        assert!(talks
+            .split(',')
+            .all(|talk| refused || talk.split(':').count() == 4));
+        assert!(checks.split(',').all(|check| check.split(':').count() == 2));
+    }
+}
+
+#[test]
+fn rows_wants_two_numbers() {
+    for arguments in [&[][..], &["1"], &["1", "x"], &["1", "2", "3"]] {
+        let status = Command::new(env!("CARGO_BIN_EXE_rows"))
+            .args(arguments)
+            .stderr(Stdio::null())
+            .status()
+            .expect("rows runs");
+        assert!(!status.success());
+    }
+}

@@ -1,0 +1,248 @@
+//! The sample sheets: their bytes, their verdicts and the files that hold them.
+
+mod common;
+
+use std::fs;
+use std::path::PathBuf;
+
+use common::{
+    decided, fact, known, new, not_known, nots, plain, sequence, stays, test, unhex, verdict,
+};
+use recovery::encode::encode;
+use recovery::print::lines;
+use recovery::read::read;
+use recovery::sheet::{Action, Epistemic, Objective, Program, Sheet, MAX_TRACE};
+use recovery::verify::{verify, Answer};
+
+const BUDGET: u32 = 1_000_000;
+
+fn case_1() -> Sheet {
+    Sheet {
+        actions: vec![test(fact(0))],
+        goal: decided(fact(0)),
+        program: sequence(&[0]),
+        ..plain()
+    }
+}
+
+fn case_2() -> Sheet {
+    Sheet {
+        goal: known(fact(0)),
+        ..case_1()
+    }
+}
+
+/// Example 1 of the 2012 paper; x1 is fact 0, x2 is fact 1.
+fn example_2012(goal: Epistemic) -> Sheet {
+    let equal = fact(0).iff(fact(1));
+    let both = fact(0).and(fact(1));
+    let switch = new(0).iff(fact(0).negate()).and(stays(1));
+    Sheet {
+        facts: 2,
+        actions: vec![
+            test(equal.clone()),
+            test(both.clone()),
+            Action::Change(switch),
+        ],
+        goal,
+        program: Program::act(
+            0,
+            Program::branch(
+                known(equal),
+                sequence(&[1]),
+                sequence(&[2, 1]),
+                Program::End,
+            ),
+        ),
+        ..plain()
+    }
+}
+
+fn case_9() -> Sheet {
+    example_2012(decided(fact(0).and(fact(1))))
+}
+
+fn case_10() -> Sheet {
+    example_2012(known(fact(0).and(fact(1))))
+}
+
+fn case_11() -> Sheet {
+    Sheet {
+        goal: known(fact(0)),
+        ..plain()
+    }
+}
+
+/// Example 1 of the 2013 paper; ok1, ok2, ok3 are facts 0, 1, 2. Actions 0 to 2
+/// repair them and actions 3 to 5 test them.
+fn case_12() -> Sheet {
+    let repair = |ok: u8| {
+        let clause = |number| {
+            if number == ok {
+                new(number)
+            } else {
+                stays(number)
+            }
+        };
+        Action::Change(clause(0).and(clause(1)).and(clause(2)))
+    };
+    let unless_decided = |ok: u8, rest| {
+        let undecided = not_known(fact(ok)).and(not_known(fact(ok).negate()));
+        Program::branch(undecided, sequence(&[3 + ok]), Program::End, rest)
+    };
+    let component = |ok: u8, rest| {
+        let broken = known(fact(ok).negate());
+        unless_decided(
+            ok,
+            Program::branch(broken, sequence(&[ok]), Program::End, rest),
+        )
+    };
+    let first_is_both = fact(0).iff(fact(1).and(fact(2)));
+    let not_both = fact(1).negate().or(fact(2).negate());
+    Sheet {
+        facts: 3,
+        actions: vec![
+            repair(0),
+            repair(1),
+            repair(2),
+            test(fact(0)),
+            test(fact(1)),
+            test(fact(2)),
+        ],
+        start: first_is_both.and(not_both),
+        goal: known(fact(0)).and(known(fact(1))).and(known(fact(2))),
+        program: component(0, component(1, component(2, Program::End))),
+        ..plain()
+    }
+}
+
+fn case_13() -> Vec<u8> {
+    let mut bytes = encode(&case_1());
+    bytes.resize(1025, 0);
+    bytes
+}
+
+fn case_14(depth: usize) -> Sheet {
+    // The innermost formula makes the whole one true.
+    let innermost = if depth % 2 == 1 {
+        Objective::True
+    } else {
+        Objective::False
+    };
+    Sheet {
+        start: nots(depth - 1, innermost),
+        ..plain()
+    }
+}
+
+fn case_15() -> Sheet {
+    Sheet {
+        start: Objective::False,
+        ..case_1()
+    }
+}
+
+fn case_16() -> Sheet {
+    Sheet {
+        actions: vec![Action::Probe(vec![fact(0)])],
+        ..case_1()
+    }
+}
+
+/// Each case's name, bytes and output.
+fn cases() -> Vec<(&'static str, Vec<u8>, &'static str)> {
+    let with = |mut bytes: Vec<u8>, last: u8| {
+        *bytes.last_mut().expect("a last byte") = last;
+        bytes
+    };
+    let first = encode(&case_1());
+    vec![
+        ("01", first.clone(), "valid 2\n"),
+        ("02", encode(&case_2()), "invalid 2 1\n00 01 00\n"),
+        ("03", with(first.clone(), 1), "refused 12\n"),
+        ("04", [first, vec![0]].concat(), "refused 12\n"),
+        ("05", vec![], "refused 2\n"),
+        ("06", vec![0x21], "refused 3\n"),
+        ("07", vec![0x10], "refused 4\n"),
+        ("08", vec![0x19], "refused 4\n"),
+        ("09", encode(&case_9()), "valid 7\n"),
+        ("10", encode(&case_10()), "invalid 3 2\n00 00 00 09 00\n"),
+        ("11", encode(&case_11()), "invalid 0 0\n00\n"),
+        ("12", encode(&case_12()), "valid 8\n"),
+        ("13", case_13(), "refused 1\n"),
+        ("14a", encode(&case_14(16)), "valid 0\n"),
+        ("14b", encode(&case_14(17)), "refused 8\n"),
+        ("15", encode(&case_15()), "refused 13\n"),
+        ("16", encode(&case_16()), "refused 15\n"),
+    ]
+}
+
+#[test]
+fn printed_bytes() {
+    assert_eq!(encode(&case_1()), unhex("11 0C 90 88 1C 40 88 20 00"));
+    assert_eq!(encode(&case_2()), unhex("11 0C 90 88 11 04 00"));
+}
+
+#[test]
+fn outputs() {
+    for (name, bytes, output) in cases() {
+        let mut memory = [0; MAX_TRACE];
+        let answer = verify(&bytes, BUDGET, &mut memory);
+        let printed = String::from_utf8(lines(&answer, &memory)).expect("ASCII");
+        assert_eq!(printed, output, "case {name}");
+    }
+}
+
+#[test]
+fn small_budgets() {
+    let first = encode(&case_1());
+    assert_eq!(verdict(&first, 2).0, Answer::Valid { count: 2 });
+    assert_eq!(verdict(&first, 1).0, Answer::Stopped { budget: 1 });
+    let tenth = encode(&case_10());
+    let shown = Some(unhex("00 00 00 09 00"));
+    let (count, length) = (3, 2);
+    assert_eq!(
+        verdict(&tenth, 3),
+        (Answer::Invalid { count, length }, shown)
+    );
+    assert_eq!(verdict(&tenth, 2), (Answer::Stopped { budget: 2 }, None));
+}
+
+#[test]
+fn accepted_cases_read_back() {
+    let sheets = [
+        case_1(),
+        case_2(),
+        case_9(),
+        case_10(),
+        case_11(),
+        case_12(),
+        case_14(16),
+    ];
+    for sheet in sheets {
+        assert_eq!(read(&encode(&sheet)), Ok(sheet));
+    }
+}
+
+/// The goal that the 2012 paper gives its Example 1: all is known at the end.
+#[test]
+fn example_2012_with_its_own_goal() {
+    let sheet = example_2012(decided(fact(0)).and(decided(fact(1))));
+    assert_eq!(
+        verdict(&encode(&sheet), BUDGET).0,
+        Answer::Valid { count: 7 }
+    );
+}
+
+#[test]
+fn sample_files() {
+    let directory = PathBuf::from(env!("CARGO_MANIFEST_DIR")).join("../samples");
+    let file = |name: &str| {
+        let path = directory.join(name);
+        fs::read_to_string(&path).unwrap_or_else(|error| panic!("{}: {error}", path.display()))
+    };
+    for (name, bytes, output) in cases() {
+        assert_eq!(unhex(&file(&format!("{name}.hex"))), bytes, "case {name}");
+        assert_eq!(file(&format!("{name}.out")), output, "case {name}");
+    }
+}
