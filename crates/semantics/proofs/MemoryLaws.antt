@@ -13,7 +13,7 @@ use Rattle.lists.specs.Lists.{if_then_else_}
 use Rattle.reader.specs.Syntax.{Sheet}
 use Rattle.reader.specs.Format.{Answer, accepted, refused, reading}
 use Rattle.semantics.specs.Routine.{Failing, Full, Following}
-use Rattle.semantics.specs.Verdict.{Verdict, count, trace, valid, invalid, stopped, outcome, written, Verified, judged, verified}
+use Rattle.semantics.specs.Verdict.{Verdict, historyCount, trace, valid, invalid, stopped, outcome, written, Verified, judged, verified}
 use Rattle.semantics.specs.Printing.{printedFor, printed}
 use Rattle.semantics.proofs.VerdictLaws.{Shown, invalid-means, none-shown}
 use Rattle.semantics.proofs.AcceptedLaws.{starts, trace-length, trace-most}
@@ -44,7 +44,7 @@ module _ (bytes : List ℕ) (sheet : Sheet) (read : reading bytes ≡ accepted s
 -- followed by its old bytes.
 abbrev pub Kept : (bytes old : List ℕ) → Verified → Type 0
 Kept bytes old v = ((v .memory ≡ old) × ((c l : ℕ) → v .answer ≡ accepted (invalid c l) → ⊥))
-    ⊎ ((sheet : Sheet) × (l : ℕ) × (shown : List ℕ) × (reading bytes ≡ accepted sheet) × (v .answer ≡ accepted (invalid (count sheet) l)) × Shown sheet l shown
+    ⊎ ((sheet : Sheet) × (l : ℕ) × (shown : List ℕ) × (reading bytes ≡ accepted sheet) × (v .answer ≡ accepted (invalid (historyCount sheet) l)) × Shown sheet l shown
     × (v .memory ≡ shown ++ drop (length shown) old) × (length shown ≡ 1 + 2 * l) × (length (v .memory) ≡ length old))
 
 module _ (bytes : List ℕ) (sheet : Sheet) (read : reading bytes ≡ accepted sheet) (budget : ℕ) (old : List ℕ) (enough : 129 ≤ length old) where

@@ -14,7 +14,7 @@ use Rattle.reader.specs.Truth.{states}
 use Rattle.reader.specs.Format.{accepted, refused}
 use Rattle.semantics.specs.Runs.{Entry, entry, History, extended, replies, step, lastState, Holds, runs, holdsAfter, occurs}
 use Rattle.semantics.specs.Routine.{Policy, done, perform, routine, Follows, isFull, Following, Full, Failing}
-use Rattle.semantics.specs.Verdict.{count, valid, Outcome, outcome}
+use Rattle.semantics.specs.Verdict.{historyCount, valid, Outcome, outcome}
 use Rattle.semantics.specs.Replies.{leftAfter, historyOf, to-do, at-end, toldBy, told, stillPossible, reportedTo, reported, AcceptedBehind, AcceptedReplies, RepliesOfRun}
 use Rattle.semantics.specs.Progression.{progress, possible}
 use Rattle.semantics.proofs.RunLaws.{listed-run, run-listed, occurs-run, run-occurs, occurs-before, tested-holds, holds-tested}
@@ -232,13 +232,13 @@ module _ (sheet : Sheet) where
   full-replies h run f = (h, run, f .0, refl)
 
   -- The verdict is "valid" exactly if after no accepted replies it is told that the goal fails.
-  pub valid-told : occurs sheet [] ≡ true → (budget : ℕ) → count sheet ≤ budget
-      → (outcome sheet budget .verdict ≡ valid (count sheet)) ↔ ((rs : List ℕ) → AcceptedReplies sheet rs → told sheet rs ≡ at-end false → ⊥)
+  pub valid-told : occurs sheet [] ≡ true → (budget : ℕ) → historyCount sheet ≤ budget
+      → (outcome sheet budget .verdict ≡ valid (historyCount sheet)) ↔ ((rs : List ℕ) → AcceptedReplies sheet rs → told sheet rs ≡ at-end false → ⊥)
   unfolding Failing
   valid-told starts budget l = (
     λ v rs a t.
         let x = told-end rs false ((accepted-replies starts rs) .0 a) t in
-        (valid-means sheet budget (count sheet) v) .2 (x .0) (x .1) (x .2, λ g. not-both (x .4 .1 g) refl),
+        (valid-means sheet budget (historyCount sheet) v) .2 (x .0) (x .1) (x .2, λ g. not-both (x .4 .1 g) refl),
     λ none. ap (λ (o : Outcome). o .verdict) (means-valid sheet starts budget l (λ h run f.
         none (replies h) ((accepted-replies starts (replies h)) .1 (full-replies h run (f .0)))
         (end-told h run (f .0) ∙ ap at-end (⊎-elim (λ (e : holdsAfter sheet h (sheet .goal) ≡ true). absurd (f .1 (tested-holds sheet h (sheet .goal) e))) (λ e. e) (two-cases (holdsAfter sheet h (sheet .goal))))))),

@@ -14,7 +14,7 @@ use Rattle.lists.proofs.OrderLaws.{sorted-keep, sorted-upTo, upTo-mem, upTo-fir
 use Rattle.reader.specs.Syntax.{Sheet}
 use Rattle.semantics.specs.Runs.{History, replies, IsRun, holdsAfter, occurs}
 use Rattle.semantics.specs.Routine.{routine, isFull, Following, Full, Failing}
-use Rattle.semantics.specs.Verdict.{histories, HistoryBefore, fails, counted, count, trace, TraceBefore, valid, invalid, stopped, Outcome, failures, leastRun, concluded, outcome}
+use Rattle.semantics.specs.Verdict.{histories, HistoryBefore, fails, counted, historyCount, trace, TraceBefore, valid, invalid, stopped, Outcome, failures, leastRun, concluded, outcome}
 use Rattle.semantics.proofs.RunLaws.{run-occurs, occurs-before, least-run, tested-holds, holds-tested}
 use Rattle.semantics.proofs.FollowLaws.{listed-history, history-listed, histories-sorted}
 
@@ -135,47 +135,47 @@ module _ (sheet : Sheet) where
   counted-sorted = sorted-keep HistoryBefore nonempty (upTo (fails sheet) (histories sheet)) (sorted-upTo HistoryBefore (fails sheet) (histories sheet) (histories-sorted sheet))
 
   -- "Stopped" is answered, with the budget, exactly if the count exceeds the budget.
-  pub means-stopped : (budget : ℕ) → budget < count sheet → outcome sheet budget ≡ record { verdict = stopped budget; shown = [] }
+  pub means-stopped : (budget : ℕ) → budget < historyCount sheet → outcome sheet budget ≡ record { verdict = stopped budget; shown = [] }
   unfolding outcome if_then_else_
-  means-stopped budget l = rw (lt-ltb budget (count sheet) l)
+  means-stopped budget l = rw (lt-ltb budget (historyCount sheet) l)
 
-  pub within-budget : (budget : ℕ) → count sheet ≤ budget → outcome sheet budget ≡ concluded sheet (count sheet) (failures sheet)
+  pub within-budget : (budget : ℕ) → historyCount sheet ≤ budget → outcome sheet budget ≡ concluded sheet (historyCount sheet) (failures sheet)
   unfolding outcome if_then_else_
-  within-budget budget l = rw (le-ltb budget (count sheet) l)
+  within-budget budget l = rw (le-ltb budget (historyCount sheet) l)
 
   -- The budget is exceeded or the outcome is concluded.
   abbrev OneOf : ℕ → Outcome → Type 0
-  OneOf budget o = ((budget < count sheet) × (o ≡ record { verdict = stopped budget; shown = [] })) ⊎ ((count sheet ≤ budget) × (o ≡ concluded sheet (count sheet) (failures sheet)))
+  OneOf budget o = ((budget < historyCount sheet) × (o ≡ record { verdict = stopped budget; shown = [] })) ⊎ ((historyCount sheet ≤ budget) × (o ≡ concluded sheet (historyCount sheet) (failures sheet)))
 
   by-budget : (budget : ℕ) → OneOf budget (outcome sheet budget)
-  by-budget budget = go (ltb budget (count sheet)) refl
+  by-budget budget = go (ltb budget (historyCount sheet)) refl
     where
-      go : (t : Bool) → ltb budget (count sheet) ≡ t → OneOf budget (outcome sheet budget)
-      go true t = let l = ltb-true budget (count sheet) t in inl (l, means-stopped budget l)
-      go false t = let l = ltb-false budget (count sheet) t in inr (l, within-budget budget l)
+      go : (t : Bool) → ltb budget (historyCount sheet) ≡ t → OneOf budget (outcome sheet budget)
+      go true t = let l = ltb-true budget (historyCount sheet) t in inl (l, means-stopped budget l)
+      go false t = let l = ltb-false budget (historyCount sheet) t in inr (l, within-budget budget l)
 
-  pub stopped-means : (budget b : ℕ) → outcome sheet budget .verdict ≡ stopped b → (budget < count sheet) × (b ≡ budget)
+  pub stopped-means : (budget b : ℕ) → outcome sheet budget .verdict ≡ stopped b → (budget < historyCount sheet) × (b ≡ budget)
   stopped-means budget b e = go (outcome sheet budget) e (by-budget budget)
     where
-      go : (o : Outcome) → o .verdict ≡ stopped b → OneOf budget o → (budget < count sheet) × (b ≡ budget)
+      go : (o : Outcome) → o .verdict ≡ stopped b → OneOf budget o → (budget < historyCount sheet) × (b ≡ budget)
       go o k (inl p) = (p .0, let z : stopped b ≡ stopped budget = sym k ∙ ap (λ (x : Outcome). x .verdict) (p .1) in cc)
-      go o k (inr p) = absurd (not-stopped (count sheet) (failures sheet) b (sym (ap (λ (x : Outcome). x .verdict) (p .1)) ∙ k))
+      go o k (inr p) = absurd (not-stopped (historyCount sheet) (failures sheet) b (sym (ap (λ (x : Outcome). x .verdict) (p .1)) ∙ k))
 
   -- "Valid", with the count, is answered exactly if no full run that follows the routine fails the goal.
   pub valid-means : (budget c : ℕ) → outcome sheet budget .verdict ≡ valid c
-      → (count sheet ≤ budget) × (c ≡ count sheet) × ((h : History) (run : List ℕ) → Failing sheet h run → ⊥)
+      → (historyCount sheet ≤ budget) × (c ≡ historyCount sheet) × ((h : History) (run : List ℕ) → Failing sheet h run → ⊥)
   valid-means budget c e = go (outcome sheet budget) e (by-budget budget)
     where
-      go : (o : Outcome) → o .verdict ≡ valid c → OneOf budget o → (count sheet ≤ budget) × (c ≡ count sheet) × ((h : History) (run : List ℕ) → Failing sheet h run → ⊥)
+      go : (o : Outcome) → o .verdict ≡ valid c → OneOf budget o → (historyCount sheet ≤ budget) × (c ≡ historyCount sheet) × ((h : History) (run : List ℕ) → Failing sheet h run → ⊥)
       go o k (inl p) = let z : valid c ≡ stopped budget = sym k ∙ ap (λ (x : Outcome). x .verdict) (p .1) in let y : _≡_ {A = ℕ} 0 1 = cc in absurd (omega arith)
       go o k (inr p) =
-          let q = concluded-valid (count sheet) (failures sheet) c (sym (ap (λ (x : Outcome). x .verdict) (p .1)) ∙ k) in
+          let q = concluded-valid (historyCount sheet) (failures sheet) c (sym (ap (λ (x : Outcome). x .verdict) (p .1)) ∙ k) in
           (p .0, q .1, λ h run f. List·Memᴰ·not-nil (subst (List·Memᴰ h) (q .0) (failing-listed h run f)))
 
-  pub means-valid : occurs sheet [] ≡ true → (budget : ℕ) → count sheet ≤ budget → ((h : History) (run : List ℕ) → Failing sheet h run → ⊥)
-      → outcome sheet budget ≡ record { verdict = valid (count sheet); shown = [] }
+  pub means-valid : occurs sheet [] ≡ true → (budget : ℕ) → historyCount sheet ≤ budget → ((h : History) (run : List ℕ) → Failing sheet h run → ⊥)
+      → outcome sheet budget ≡ record { verdict = valid (historyCount sheet); shown = [] }
   unfolding concluded
-  means-valid starts budget l none = within-budget budget l ∙ ap (concluded sheet (count sheet)) (go (failures sheet) refl)
+  means-valid starts budget l none = within-budget budget l ∙ ap (concluded sheet (historyCount sheet)) (go (failures sheet) refl)
     where
       go : (hs : List History) → failures sheet ≡ hs → hs ≡ []
       go [] e = refl
@@ -185,24 +185,24 @@ module _ (sheet : Sheet) where
           absurd (none h (q .0) (q .1))
 
   -- "Invalid", with the count and the length, is answered exactly if some does. The trace shown is that of such a run, and every other such run's comes later.
-  pub means-invalid : (budget : ℕ) → count sheet ≤ budget → (h : History) (run : List ℕ) → Failing sheet h run
-      → (l : ℕ) × (outcome sheet budget .verdict ≡ invalid (count sheet) l)
+  pub means-invalid : (budget : ℕ) → historyCount sheet ≤ budget → (h : History) (run : List ℕ) → Failing sheet h run
+      → (l : ℕ) × (outcome sheet budget .verdict ≡ invalid (historyCount sheet) l)
   unfolding concluded
   means-invalid budget l h run f = go (failures sheet) refl
     where
-      go : (hs : List History) → failures sheet ≡ hs → (l : ℕ) × (outcome sheet budget .verdict ≡ invalid (count sheet) l)
+      go : (hs : List History) → failures sheet ≡ hs → (l : ℕ) × (outcome sheet budget .verdict ≡ invalid (historyCount sheet) l)
       go [] e = absurd (List·Memᴰ·not-nil (subst (List·Memᴰ h) e (failing-listed h run f)))
-      go (g ∷ hs) e = (length g, ap (λ (x : Outcome). x .verdict) (within-budget budget l ∙ ap (concluded sheet (count sheet)) e))
+      go (g ∷ hs) e = (length g, ap (λ (x : Outcome). x .verdict) (within-budget budget l ∙ ap (concluded sheet (historyCount sheet)) e))
 
   pub invalid-means : occurs sheet [] ≡ true → (budget c l : ℕ) → outcome sheet budget .verdict ≡ invalid c l
-      → (count sheet ≤ budget) × (c ≡ count sheet) × Shown l (outcome sheet budget .shown)
+      → (historyCount sheet ≤ budget) × (c ≡ historyCount sheet) × Shown l (outcome sheet budget .shown)
   invalid-means starts budget c l e = go (outcome sheet budget) e (by-budget budget)
     where
-      go : (o : Outcome) → o .verdict ≡ invalid c l → OneOf budget o → (count sheet ≤ budget) × (c ≡ count sheet) × Shown l (o .shown)
+      go : (o : Outcome) → o .verdict ≡ invalid c l → OneOf budget o → (historyCount sheet ≤ budget) × (c ≡ historyCount sheet) × Shown l (o .shown)
       go o k (inl p) = let z : invalid c l ≡ stopped budget = sym k ∙ ap (λ (x : Outcome). x .verdict) (p .1) in let y : _≡_ {A = ℕ} 0 1 = cc in absurd (omega arith)
       go o k (inr p) =
-          let q = concluded-invalid (count sheet) (failures sheet) c l (sym (ap (λ (x : Outcome). x .verdict) (p .1)) ∙ k) in
-          (p .0, q .3, rw (p .1) (rw (q .2) (first-shown starts (q .0) (q .1) l (count sheet) (q .2) (q .4))))
+          let q = concluded-invalid (historyCount sheet) (failures sheet) c l (sym (ap (λ (x : Outcome). x .verdict) (p .1)) ∙ k) in
+          (p .0, q .3, rw (p .1) (rw (q .2) (first-shown starts (q .0) (q .1) l (historyCount sheet) (q .2) (q .4))))
 
   -- Only "invalid" shows a trace.
   pub none-shown : (budget : ℕ)
@@ -213,9 +213,9 @@ module _ (sheet : Sheet) where
       Claim : Outcome → Type 0
       Claim o = ((o .shown ≡ []) × ((c l : ℕ) → o .verdict ≡ invalid c l → ⊥)) ⊎ ((c : ℕ) × (l : ℕ) × (o .verdict ≡ invalid c l))
 
-      by-failures : (hs : List History) → Claim (concluded sheet (count sheet) hs)
+      by-failures : (hs : List History) → Claim (concluded sheet (historyCount sheet) hs)
       by-failures [] = inl (refl, λ c l k. let z : _≡_ {A = ℕ} 0 1 = cc in omega arith)
-      by-failures (h ∷ later) = inr (count sheet, length h, refl)
+      by-failures (h ∷ later) = inr (historyCount sheet, length h, refl)
 
       go : (o : Outcome) → OneOf budget o → Claim o
       go o (inl p) = subst Claim (sym (p .1)) (inl (refl, λ c l k. let z : _≡_ {A = ℕ} 0 1 = cc in omega arith))

@@ -1,13 +1,14 @@
 -- The starred sample sheets of document 01, and its "Readings to reject", each table under one lemma that evaluates the definitions on every row.
 use Prim.Native.Nat.{ℕ, _-_}
-use mathlib.Core.List.{List, [], _∷_, _++_}
+use mathlib.Core.List.{List, [], _∷_, _++_, map}
 use mathlib.Core.Path.{_≡_, refl}
 use lib.ListN.{length, replicate}
+use Rattle.lists.specs.Lists.{upFrom, below}
 use Rattle.reader.specs.Syntax.{Objective, top, fact, new-fact, negation, conjunction, disjunction, equivalence, Epistemic, known, not-known, any-of, Program, end, act, branch, Action, change, probe, Sheet}
 use Rattle.reader.specs.Format.{Answer, accepted, refused, reading}
 use Rattle.semantics.specs.Verdict.{Verdict, valid, invalid, stopped, outcome, longestTrace, verified}
 use Rattle.semantics.specs.Replies.{reported}
-use Rattle.semantics.specs.Printing.{printed}
+use Rattle.semantics.specs.Printing.{digit, printed}
 
 -- A row: the bytes of a sheet, the budget, the verifier's answer, and the trace that it shows.
 pub record Row : Type 0 where
@@ -106,6 +107,12 @@ pub sheet2-prints : printed sheet2
     ∷ 0x30 ∷ 0x30 ∷ 0x20 ∷ 0x30 ∷ 0x31 ∷ 0x20 ∷ 0x30 ∷ 0x30 ∷ 0x0A ∷ []
 unfolding printed
 sheet2-prints = refl
+
+-- The digits of what is printed, "lower-case".
+pub digits-are : map digit (below 16)
+    ≡ 0x30 ∷ 0x31 ∷ 0x32 ∷ 0x33 ∷ 0x34 ∷ 0x35 ∷ 0x36 ∷ 0x37 ∷ 0x38 ∷ 0x39 ∷ 0x61 ∷ 0x62 ∷ 0x63 ∷ 0x64 ∷ 0x65 ∷ 0x66 ∷ []
+unfolding digit upFrom
+digits-are = refl
 
 -- "Readings to reject": a small sheet for each, on which the rejected reading would answer otherwise.
 abbrev pub small : (facts : ℕ) (actions : List Action) (start : Objective) (goal : Epistemic) → Program → Sheet

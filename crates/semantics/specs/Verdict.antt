@@ -39,9 +39,9 @@ unfolding keep nonempty upTo fails histories
 counted sheet = keep nonempty (upTo (fails sheet) (histories sheet))
 
 -- "Its count is the number of" these.
-unfoldable pub count : Sheet → ℕ
+unfoldable pub historyCount : Sheet → ℕ
 unfolding counted
-count sheet = length (counted sheet)
+historyCount sheet = length (counted sheet)
 
 -- "The trace: start state; then for each action one byte (action times 8 plus reply) and one byte of state."
 unfoldable pub traceFrom : History → (rest : List ℕ) → List ℕ
@@ -87,9 +87,9 @@ concluded sheet c (h ∷ later) = record { verdict = invalid c (length h); shown
 
 -- "It answers "stopped" with the budget if and only if that count exceeds the budget."
 unfoldable pub outcome : Sheet → (budget : ℕ) → Outcome
-unfolding count failures concluded if_then_else_
+unfolding historyCount failures concluded if_then_else_
 outcome sheet budget =
-    if ltb budget (count sheet) then record { verdict = stopped budget; shown = [] } else concluded sheet (count sheet) (failures sheet)
+    if ltb budget (historyCount sheet) then record { verdict = stopped budget; shown = [] } else concluded sheet (historyCount sheet) (failures sheet)
 
 -- The trace memory after a call: "the failing trace followed by its old bytes, or only its old bytes" (demand 1).
 unfoldable pub written : (shown old : List ℕ) → List ℕ
