@@ -53,8 +53,8 @@ gives-behind {A = A} P Q m k x y s p b q e = go (m s p) refl e
 abbrev Anything : {A : Type 0} → A → Type 0
 Anything a = Unit {0}
 
--- One reader behind another, of whose value nothing is known.
-pub gives-any : {A B : Type 0} (Q : B → Type 0) (m : Reader A) (k : A → Reader B) → ((a : A) → Gives Q (k a)) → Gives Q (m >>= k)
+-- Shorthand where nothing is known of the first value.
+abbrev pub gives-any : {A B : Type 0} (Q : B → Type 0) (m : Reader A) (k : A → Reader B) → ((a : A) → Gives Q (k a)) → Gives Q (m >>= k)
 gives-any Q m k y = gives-behind Anything Q m k (λ s p a q e. tt) (λ a u. y a)
 
 -- Two readers read alike, wherever they read.
@@ -83,8 +83,8 @@ same-behind {A = A} P m m′ k k′ x e y s p = rw (sym (e s p)) (go (m s p) ref
     go (got a q) l = y a (x s p a q l) s q
     go (fault i) l = refl
 
--- One reader behind another, of whose value nothing is known.
-same-any : {A B : Type 0} (m : Reader A) (k k′ : A → Reader B) → ((a : A) → Same (k a) (k′ a)) → Same (m >>= k) (m >>= k′)
+-- Shorthand where nothing is known of the first value.
+abbrev same-any : {A B : Type 0} (m : Reader A) (k k′ : A → Reader B) → ((a : A) → Same (k a) (k′ a)) → Same (m >>= k) (m >>= k′)
 same-any m k k′ y = same-behind Anything m m k k′ (λ s p a q e. tt) (λ s p. refl) (λ a u. y a)
 
 -- Bits behind a number stay below what the next number would begin.

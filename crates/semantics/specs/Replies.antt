@@ -37,8 +37,8 @@ unfoldable pub told : Sheet → (rs : List ℕ) → Told
 unfolding toldBy leftAfter historyOf routine
 told sheet rs = toldBy sheet (leftAfter (routine sheet) rs) (historyOf (routine sheet) rs)
 
--- Whether a reply "is true in some state still possible". The states still possible are the last states of the runs with the history so far; the reply is looked
--- at after the action's effect on them, which for a probe is none.
+-- Whether an entry's reply is true in some state still possible. The states still possible are the last states of the runs with the history so far; the reply is
+-- looked at after the action's effect on them, which for a probe is none.
 unfoldable pub stillPossible : Sheet → History → Entry → Bool
 unfolding exists runs lastState step states
 stillPossible sheet h e = exists (λ run. exists (λ t. step sheet e (lastState run) t) (states sheet)) (runs sheet h)
