@@ -163,13 +163,13 @@ module _ (sheet : Sheet) where
     abbrev side : Bool → Policy
     side b = if b then policy sheet p (policy sheet rest onward) h else policy sheet q (policy sheet rest onward) h
 
-    pub branch-then : Holds sheet h f → policy sheet (branch f p q rest) onward h ≡ policy sheet p (policy sheet rest onward) h
-    unfolding policy
-    branch-then k = ap side (holds-tested sheet h f k)
-
     pub branch-else : (Holds sheet h f → ⊥) → policy sheet (branch f p q rest) onward h ≡ policy sheet q (policy sheet rest onward) h
     unfolding policy
     branch-else k = ap side (⊎-elim (λ (e : holdsAfter sheet h f ≡ true). absurd (k (tested-holds sheet h f e))) (λ e. e) (two-cases (holdsAfter sheet h f)))
+
+    pub branch-then : Holds sheet h f → policy sheet (branch f p q rest) onward h ≡ policy sheet p (policy sheet rest onward) h
+    unfolding policy
+    branch-then k = ap side (holds-tested sheet h f k)
 
     -- What holds of both sides holds of the branch.
     pub branch-either : (P : Policy → Type 0) → P (policy sheet p (policy sheet rest onward) h) → P (policy sheet q (policy sheet rest onward) h) → P (policy sheet (branch f p q rest) onward h)

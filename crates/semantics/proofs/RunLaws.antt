@@ -128,13 +128,13 @@ module _ (sheet : Sheet) where
           )
 
   -- The test of an epistemic formula tells whether it holds: "known" exactly if the formula is true at the end of every run with the history.
-  tested-known : (h : History) (f : Objective) → knownAfter sheet h f ≡ true → Known sheet h f
-  unfolding knownAfter Known
-  tested-known h f e run p = every-mem (λ run. holds f (lastState run)) (runs sheet h) e (run-listed h run p)
-
   known-tested : (h : History) (f : Objective) → Known sheet h f → knownAfter sheet h f ≡ true
   unfolding knownAfter Known
   known-tested h f k = mem-every (λ run. holds f (lastState run)) (runs sheet h) (λ run m. k run (listed-run h m))
+
+  tested-known : (h : History) (f : Objective) → knownAfter sheet h f ≡ true → Known sheet h f
+  unfolding knownAfter Known
+  tested-known h f e run p = every-mem (λ run. holds f (lastState run)) (runs sheet h) e (run-listed h run p)
 
   pub tested-holds : (h : History) (f : Epistemic) → holdsAfter sheet h f ≡ true → Holds sheet h f
   unfolding holdsAfter Holds
