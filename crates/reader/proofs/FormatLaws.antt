@@ -7,7 +7,7 @@ use native.Mathlib.Omega.{arith}
 use native.Mathlib.Nat.{add-suc, mul-assoc, mul-le-mul-right, pow-succ'}
 use lib.Dec.{leb, ltb, eqb}
 use lib.ListN.{length}
-use borrow.Author.Tests.{ltb-true}
+use borrow.Author.Tests.{leb-true, ltb-true}
 use Rattle.lists.specs.Lists.{if_then_else_}
 use Rattle.reader.specs.Syntax.{Program, end, act, branch, actionNodes, branchNodes}
 use Rattle.reader.specs.Bits.{bitAt, bitsOnto, bitsAt}
@@ -87,6 +87,95 @@ same-behind {A = A} P m m′ k k′ x e y s p = rw (sym (e s p)) (go (m s p) ref
 abbrev same-any : {A B : Type 0} (m : Reader A) (k k′ : A → Reader B) → ((a : A) → Same (k a) (k′ a)) → Same (m >>= k) (m >>= k′)
 same-any m k k′ y = same-behind Anything m m k k′ (λ s p a q e. tt) (λ s p. refl) (λ a u. y a)
 
+-- How one reader behind another has given a value: the first gave a value and a position, and the second went on from there.
+pub record Behind {A B : Type 0} (m : Reader A) (k : A → Reader B) (s : List ℕ) (p : ℕ) (b : B) (q : ℕ) : Type 0 where
+  pub value : A
+  pub middle : ℕ
+  pub first : m s p ≡ got value middle
+  pub second : k value s middle ≡ got b q
+
+-- What one reader behind another gives, both have given.
+pub got-behind : {A B : Type 0} (m : Reader A) (k : A → Reader B) (s : List ℕ) (p : ℕ) (b : B) (q : ℕ) → (m >>= k) s p ≡ got b q → Behind m k s p b q
+unfolding _>>=_ andThen
+got-behind {A = A} m k s p b q e = go (m s p) refl e
+  where
+    go : (r : Read A) → m s p ≡ r → andThen r (λ a i. k a s i) ≡ got b q → Behind m k s p b q
+    go (got a i) l j = record { value = a; middle = i; first = l; second = j }
+    go (fault r) l j = let z : _≡_ {A = ℕ} 0 1 = cc in absurd (omega arith)
+
+-- One reader behind another, by what the first finds.
+module _ {A B : Type 0} (m : Reader A) (k : A → Reader B) (s : List ℕ) (p : ℕ) where
+  -- Behind a value the second reader goes on where the first ended.
+  pub behind-got : {a : A} {q : ℕ} → m s p ≡ got a q → (m >>= k) s p ≡ k a s q
+  unfolding _>>=_ andThen
+  behind-got e = rw e
+
+  -- The first one's refusal stands.
+  pub behind-fault : {r : ℕ} → m s p ≡ fault r → (m >>= k) s p ≡ fault r
+  unfolding _>>=_ andThen
+  behind-fault e = rw e
+
+-- What a reader gives at one position, with the position after it, has a property.
+pub record Finds {A : Type 0} (s : List ℕ) (p : ℕ) (Q : A → ℕ → Type 0) (m : Reader A) : Type 0 where
+  pub found : (a : A) (q : ℕ) → m s p ≡ got a q → Q a q
+
+module _ {A : Type 0} (s : List ℕ) (p : ℕ) (Q : A → ℕ → Type 0) where
+  -- Giving a value that has it.
+  pub finds-give : (a : A) → Q a p → Finds s p Q (give a)
+  unfolding give
+  finds-give a h = record { found = λ b q e. let k : a ≡ b = cc in let l : p ≡ q = cc in subst (λ (x : ℕ). Q b x) l (subst (λ (x : A). Q x p) k h) }
+
+  -- Refusing gives nothing.
+  pub finds-refuse : (r : ℕ) → Finds s p Q (refuse r)
+  unfolding refuse
+  finds-refuse r = record { found = λ b q e. let z : _≡_ {A = ℕ} 0 1 = cc in absurd (omega arith) }
+
+  -- The choice between two readers.
+  pub finds-if : (b : Bool) (m n : Reader A) → (b ≡ true → Finds s p Q m) → (b ≡ false → Finds s p Q n) → Finds s p Q (if b then m else n)
+  unfolding if_then_else_
+  finds-if true m n x y = x refl
+  finds-if false m n x y = y refl
+
+  -- Going on only if a test passes.
+  pub finds-check : (b : Bool) (r : ℕ) (m : Reader A) → (b ≡ true → Finds s p Q m) → Finds s p Q (check b r m)
+  unfolding check
+  finds-check true r m x = x refl
+  finds-check false r m x = finds-refuse r
+
+-- One reader behind another.
+pub finds-behind : {A B : Type 0} (s : List ℕ) (p : ℕ) (Q : B → ℕ → Type 0) (m : Reader A) (k : A → Reader B) → ((a : A) (r : ℕ) → m s p ≡ got a r → Finds s r Q (k a)) → Finds s p Q (m >>= k)
+finds-behind s p Q m k y = record { found = λ b q e. let h = got-behind m k s p b q e in y (h .value) (h .middle) (h .first) .found b q (h .second) }
+
+-- What one reader gives, another gives too, with the same position after it.
+abbrev pub Keeps : {A : Type 0} → Reader A → Reader A → Type 0
+Keeps {A} m m′ = (s : List ℕ) (p : ℕ) (a : A) (q : ℕ) → m s p ≡ got a q → m′ s p ≡ got a q
+
+module _ {A : Type 0} where
+  -- The choice between two readers.
+  pub keeps-if : (b : Bool) (m m′ n n′ : Reader A) → Keeps m m′ → Keeps n n′ → Keeps (if b then m else n) (if b then m′ else n′)
+  unfolding if_then_else_
+  keeps-if true m m′ n n′ x y = x
+  keeps-if false m m′ n n′ x y = y
+
+  -- A reader that refuses gives nothing.
+  pub keeps-refuse : (r : ℕ) (m : Reader A) → Keeps (refuse r) m
+  unfolding refuse
+  keeps-refuse r m s p a q e = let z : _≡_ {A = ℕ} 0 1 = cc in absurd (omega arith)
+
+-- One reader behind another.
+pub keeps-behind : {A B : Type 0} (m m′ : Reader A) (k k′ : A → Reader B) → Keeps m m′ → ((a : A) → Keeps (k a) (k′ a)) → Keeps (m >>= k) (m′ >>= k′)
+keeps-behind m m′ k k′ x y s p b q e =
+    let h = got-behind m k s p b q e in
+    behind-got m′ k′ s p (x s p (h .value) (h .middle) (h .first)) ∙ y (h .value) s (h .middle) b q (h .second)
+
+-- What is kept by each level more is kept by any number of levels more.
+pub keeps-levels : {A : Type 0} (m : ℕ → Reader A) → ((d : ℕ) → Keeps (m d) (m (suc d))) → (d d′ : ℕ) → d ≤ d′ → Keeps (m d) (m d′)
+keeps-levels m step d d′ h s p a q e = go (d′ - d) d′ (omega arith)
+  where
+    go : (i j : ℕ) → j ≡ i + d → m j s p ≡ got a q
+    go zero j l = let z : j ≡ d = omega arith in rw z e
+    go (suc i) j l = let z : j ≡ suc (i + d) = omega arith in rw z (step (i + d) s p a q (go i (i + d) refl))
+
 -- Bits behind a number stay below what the next number would begin.
 onto-below : (s : List ℕ) (high p k : ℕ) → bitsOnto s high p k < (high + 1) * 2 ^ k
 unfolding bitsOnto bitAt
@@ -101,14 +190,27 @@ pub bits-below : (s : List ℕ) (p k : ℕ) → bitsAt s p k < 2 ^ k
 unfolding bitsAt
 bits-below s p k = omega (arith, onto-below s 0 p k)
 
--- What a field of k bits gives is below 2 ^ k.
-pub field-below : (k : ℕ) → Gives (λ v. v < 2 ^ k) (field k)
+-- What a field of k bits gives: the position k further, which is inside the bytes, and the number that stands there.
+pub field-got : (k : ℕ) (s : List ℕ) (p v q : ℕ) → field k s p ≡ got v q → (q ≡ p + k) × (p + k ≤ 8 * length s) × (v ≡ bitsAt s p k)
 unfolding field if_then_else_
-field-below k s p v q e = go (leb (p + k) (8 * length s)) e
+field-got k s p v q e = go (leb (p + k) (8 * length s)) refl e
   where
-    go : (b : Bool) → _≡_ {A = Read ℕ} (if b then got (bitsAt s p k) (p + k) else fault 2) (got v q) → v < 2 ^ k
-    go true h = let z : bitsAt s p k ≡ v = cc in omega (arith, bits-below s p k)
-    go false h = let z : _≡_ {A = ℕ} 0 1 = cc in absurd (omega arith)
+    go : (b : Bool) → leb (p + k) (8 * length s) ≡ b → _≡_ {A = Read ℕ} (if b then got (bitsAt s p k) (p + k) else fault 2) (got v q) → (q ≡ p + k) × (p + k ≤ 8 * length s) × (v ≡ bitsAt s p k)
+    go true l h = (cc, leb-true (p + k) (8 * length s) l, cc)
+    go false l h = let z : _≡_ {A = ℕ} 0 1 = cc in absurd (omega arith)
+
+-- A reader behind a field, which goes on from the position after it.
+pub finds-field : {A : Type 0} (s : List ℕ) (p : ℕ) (Q : A → ℕ → Type 0) (k r : ℕ) → p + k ≡ r → (m : ℕ → Reader A) → ((v : ℕ) → field k s p ≡ got v r → r ≤ 8 * length s → Finds s r Q (m v))
+    → Finds s p Q (field k >>= m)
+finds-field s p Q k r h m y =
+    finds-behind s p Q (field k) m (λ v i e.
+    let g = field-got k s p v i e in
+    let l : i ≡ r = omega arith in
+    subst (λ (j : ℕ). Finds s j Q (m v)) (sym l) (y v (subst (λ (j : ℕ). field k s p ≡ got v j) l e) (omega arith)))
+
+-- It is below 2 ^ k.
+pub field-below : (k : ℕ) → Gives (λ v. v < 2 ^ k) (field k)
+field-below k s p v q e = let g = field-got k s p v q e in omega (arith, bits-below s p k)
 
 -- Every action number in a program is below k.
 unfoldable pub NumbersBelow : (k : ℕ) → Program → Type 0

@@ -1,3 +1,12 @@
 pub mod StateLaws
 pub mod FormatLaws
+pub mod FormulaLaws
 pub mod SheetLaws
+pub mod Standing
+pub mod BitLaws
+pub mod ReaderLaws
+pub mod ActionLaws
+pub mod NodeLaws
+pub mod TableLaws
+pub mod ProgramLaws
+pub mod StageLaws

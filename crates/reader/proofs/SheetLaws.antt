@@ -1,24 +1,30 @@
 -- Laws of accepted sheets: their limits, and what the tests after the fields tell of them. Assumes nothing.
-use Prim.Native.Nat.{ℕ, zero, suc, _≤_, _<_}
+use Prim.Native.Nat.{ℕ, zero, suc, _+_, _≤_, _<_}
 use mathlib.Core.Path.{_≡_, refl, sym, ap, subst}
 use mathlib.Core.Logic.{⊎-elim}
 use mathlib.Core.List.{List, [], _∷_, _++_, flatMap, List·Memᴰ, List·Memᴰ·head, List·Memᴰ·tail, List·Memᴰ·not-nil, List·Memᴰ·cases-cons, Memᴰ·append-left, Memᴰ·append-right}
-use mathlib.Core.Bool.{Bool, true, false, _&&_}
+use mathlib.Core.Bool.{Bool, true, false, not, _&&_}
 use native.Mathlib.Omega.{arith}
 use lib.Dec.{leb, ltb, eqb}
 use lib.ListN.{length, getD, List·getD-eq-default}
 use borrow.Author.Tests.{leb-true, ltb-true, ltb-false}
 use Rattle.lists.specs.Lists.{if_then_else_}
-use Rattle.lists.proofs.ListLaws.{both-true, mem-flat}
-use Rattle.reader.specs.Syntax.{Action, change, probe, replyCount, actionNodes, branchNodes, Sheet, actionOf}
-use Rattle.reader.specs.Format.{Answer, accepted, refused, Read, got, fault, Reader, _>>=_, give, check, field, objective, epistemic, objectives, actionBehind, actionList, ProgramRead, programWithin, isEdition, sheetFields, isPadding, hasStart, leadsOn, hasReply, unless, faults, decided, afterFields, reading}
-use Rattle.reader.proofs.FormatLaws.{Gives, gives-give, gives-if, gives-check, gives-behind, gives-any, field-below, NumbersBelow, Counts, program-counts}
+use Rattle.lists.proofs.ListLaws.{not-both, both-true, mem-flat}
+use Rattle.reader.specs.Syntax.{Objective, bottom, top, fact, new-fact, negation, conjunction, disjunction, equivalence, Epistemic, known, not-known, all-of, any-of, Program, end, act, branch, Action, change, probe, replyCount, actionNodes, branchNodes, Sheet, actionOf}
+use Rattle.reader.specs.Truth.{truth, holds}
+use Rattle.reader.specs.Format.{Answer, accepted, refused, Read, got, fault, Reader, _>>=_, give, check, field, factNumber, objectiveBehind, objective, epistemicBehind, epistemic, objectives, actionBehind, action, actionList, ProgramRead, programBehind, programWithin, isEdition, sheetFields, isPadding, hasStart, leadsOn, hasReply, unless, faults, decided, afterFields, reading}
+use Rattle.reader.proofs.FormatLaws.{Gives, gives-give, gives-refuse, gives-if, gives-check, gives-behind, gives-any, field-below, NumbersBelow, Counts, program-counts}
 
--- A list has m elements; of m objective formulas there are m.
-abbrev Long : {A : Type 0} → ℕ → List A → Type 0
+-- A property of every member of a list whose first element and whose rest have it.
+mem-more : {A : Type 0} (P : A → Type 0) (x : A) (xs : List A) → P x → ((a : A) → List·Memᴰ a xs → P a) → (a : A) → List·Memᴰ a (x ∷ xs) → P a
+mem-more P x xs h k a m = ⊎-elim (λ (e : a ≡ x). subst P (sym e) h) (λ i. k a i) (List·Memᴰ·cases-cons m)
+
+-- A list has m elements.
+abbrev pub Long : {A : Type 0} → ℕ → List A → Type 0
 Long m xs = length xs ≡ m
 
-objectives-long : (n m : ℕ) → Gives (Long m) (objectives n m)
+-- Of m objective formulas that are read there are m.
+pub objectives-long : (n m : ℕ) → Gives (Long m) (objectives n m)
 unfolding objectives
 objectives-long n zero = gives-give (Long 0) [] refl
 objectives-long n (suc m) =
@@ -30,9 +36,9 @@ objectives-long n (suc m) =
 abbrev pub FewReplies : Action → Type 0
 FewReplies a = (1 ≤ replyCount a) × (replyCount a ≤ 8)
 
-action-few : (n kind : ℕ) → Gives FewReplies (actionBehind n kind)
+behind-few : (n kind : ℕ) → Gives FewReplies (actionBehind n kind)
 unfolding actionBehind replyCount
-action-few n kind =
+behind-few n kind =
     gives-if FewReplies (eqb kind 0) _ _
     (gives-any FewReplies (objective n true 16) _ (λ f. gives-give FewReplies (change f) (omega arith, omega arith)))
     (gives-any FewReplies (field 4) _ (λ m. gives-check FewReplies (leb 1 m && leb m 8) 5 _ (λ t.
@@ -40,19 +46,23 @@ action-few n kind =
     let u = both-true (leb 1 m) (leb m 8) t in
     gives-give FewReplies (probe fs) (omega (arith, leb-true 1 m (u .0)), omega (arith, leb-true m 8 (u .1)))))))
 
--- Of k actions that are read there are k, each with 1 to 8 replies.
-abbrev Listed : ℕ → List Action → Type 0
+action-few : (n : ℕ) → Gives FewReplies (action n)
+unfolding action
+action-few n = gives-any FewReplies (field 1) _ (behind-few n)
+
+-- There are k actions, each with 1 to 8 replies.
+abbrev pub Listed : ℕ → List Action → Type 0
 Listed k actions = Long k actions × ((a : Action) → List·Memᴰ a actions → FewReplies a)
 
-list-few : (n k : ℕ) → Gives (Listed k) (actionList n k)
+-- Of k actions that are read there are k, each with 1 to 8 replies.
+pub list-few : (n k : ℕ) → Gives (Listed k) (actionList n k)
 unfolding actionList
 list-few n zero = gives-give (Listed 0) [] (refl, λ a m. absurd (List·Memᴰ·not-nil m))
 list-few n (suc k) =
-    gives-any (Listed (suc k)) (field 1) _ (λ kind.
-    gives-behind FewReplies (Listed (suc k)) (actionBehind n kind) _ (action-few n kind) (λ a few.
+    gives-behind FewReplies (Listed (suc k)) (action n) _ (action-few n) (λ a few.
     gives-behind (Listed k) (Listed (suc k)) (actionList n k) _ (list-few n k) (λ rest l.
     gives-give (Listed (suc k)) (a ∷ rest)
-    (ap suc (l .0), λ x m. ⊎-elim (λ (e : x ≡ a). subst FewReplies (sym e) few) (λ i. l .1 x i) (List·Memᴰ·cases-cons m)))))
+    (ap suc (l .0), mem-more FewReplies a rest few (l .1))))
 
 -- The limits of a sheet: 1 to 8 facts; at most 31 actions, each with 1 to 8 replies; at most 64 action nodes and 63 branch nodes; no action number without an action.
 pub record Shape (sheet : Sheet) : Type 0 where
@@ -65,7 +75,7 @@ pub record Shape (sheet : Sheet) : Type 0 where
   pub numbers : NumbersBelow (length (sheet .actions)) (sheet .program)
 
 -- The fields of a sheet, where the program is read by any reader that counts.
-abbrev fieldsWith : (programOf : (n k : ℕ) → Reader ProgramRead) → Reader Sheet
+abbrev pub fieldsWith : (programOf : (n k : ℕ) → Reader ProgramRead) → Reader Sheet
 fieldsWith programOf = do
   edition ← field 4
   check (isEdition edition) 3 do
@@ -103,13 +113,14 @@ unfolding sheetFields
 fields-shape = with-shape (λ n k. programWithin n k 128 0 0) (λ n k. program-counts n k 128 0 0)
 
 -- How bytes are accepted: they are few enough, the fields give the sheet, and none of the tests after them fails.
-record Accepted (bytes : List ℕ) (sheet : Sheet) : Type 0 where
-  short : length bytes ≤ 1024
-  position : ℕ
-  fields : sheetFields bytes 0 ≡ got sheet position
-  faultless : faults bytes position sheet ≡ []
+pub record Accepted (bytes : List ℕ) (sheet : Sheet) : Type 0 where
+  pub short : length bytes ≤ 1024
+  pub position : ℕ
+  pub fields : sheetFields bytes 0 ≡ got sheet position
+  pub faultless : faults bytes position sheet ≡ []
 
-accepted-how : (bytes : List ℕ) (sheet : Sheet) → reading bytes ≡ accepted sheet → Accepted bytes sheet
+-- Accepted bytes are accepted so.
+pub accepted-how : (bytes : List ℕ) (sheet : Sheet) → reading bytes ≡ accepted sheet → Accepted bytes sheet
 unfolding reading afterFields decided if_then_else_
 accepted-how bytes sheet e = go (leb (length bytes) 1024) refl (sheetFields bytes 0) refl e
   where
@@ -143,6 +154,13 @@ passed-unless : (b : Bool) (r : ℕ) → (List·Memᴰ r (unless b r) → ⊥) �
 unfolding unless
 passed-unless true r h = refl
 passed-unless false r h = absurd (h (List·Memᴰ·head refl))
+
+-- Behind the fields of an accepted sheet is padding.
+pub accepted-padding : (bytes : List ℕ) (sheet : Sheet) (how : Accepted bytes sheet) → isPadding bytes (how .position) ≡ true
+unfolding faults
+accepted-padding bytes sheet how =
+    passed-unless (isPadding bytes (how .position)) 12 (λ m.
+    List·Memᴰ·not-nil (subst (λ (rs : List ℕ). List·Memᴰ 12 rs) (how .faultless) (Memᴰ·append-left _ (Memᴰ·append-left (unless (hasStart sheet) 13) m))))
 
 -- An accepted sheet has passed the tests.
 pub accepted-passed : (bytes : List ℕ) (sheet : Sheet) → reading bytes ≡ accepted sheet → Passed sheet
@@ -187,3 +205,197 @@ few-replies sheet shape a = go (ltb a (length (sheet .actions))) refl
     go : (b : Bool) → ltb a (length (sheet .actions)) ≡ b → replyCount (actionOf sheet a) ≤ 8
     go true e = (shape .replies-few (actionOf sheet a) (action-mem sheet a (ltb-true a (length (sheet .actions)) e))) .1
     go false e = rw (List·getD-eq-default (sheet .actions) (probe []) (ltb-false a (length (sheet .actions)) e)) (omega arith)
+
+-- Every fact number in an objective formula is below n.
+unfoldable pub FactsBelow : (n : ℕ) → Objective → Type 0
+FactsBelow n bottom = Unit {0}
+FactsBelow n top = Unit {0}
+FactsBelow n (fact i) = i < n
+FactsBelow n (new-fact i) = i < n
+FactsBelow n (negation f) = FactsBelow n f
+FactsBelow n (conjunction f g) = FactsBelow n f × FactsBelow n g
+FactsBelow n (disjunction f g) = FactsBelow n f × FactsBelow n g
+FactsBelow n (equivalence f g) = FactsBelow n f × FactsBelow n g
+
+-- No new fact stands in an objective formula.
+unfoldable pub NoNew : Objective → Type 0
+NoNew bottom = Unit {0}
+NoNew top = Unit {0}
+NoNew (fact i) = Unit {0}
+NoNew (new-fact i) = ⊥
+NoNew (negation f) = NoNew f
+NoNew (conjunction f g) = NoNew f × NoNew g
+NoNew (disjunction f g) = NoNew f × NoNew g
+NoNew (equivalence f g) = NoNew f × NoNew g
+
+-- The truth of a formula without new facts doesn't depend on the next state.
+pub truth-outside : (f : Objective) (s t : ℕ) → NoNew f → truth f s t ≡ holds f s
+unfolding truth holds NoNew
+truth-outside bottom s t h = refl
+truth-outside top s t h = refl
+truth-outside (fact i) s t h = refl
+truth-outside (new-fact i) s t h = absurd h
+truth-outside (negation f) s t h = ap not (truth-outside f s t h)
+truth-outside (conjunction f g) s t h = rw (truth-outside f s t (h .0), truth-outside g s t (h .1))
+truth-outside (disjunction f g) s t h = rw (truth-outside f s t (h .0), truth-outside g s t (h .1))
+truth-outside (equivalence f g) s t h = rw (truth-outside f s t (h .0), truth-outside g s t (h .1))
+
+-- An objective formula mentions the facts below n only, and no new fact.
+abbrev pub ObjectiveFacts : (n : ℕ) → Objective → Type 0
+ObjectiveFacts n f = FactsBelow n f × NoNew f
+
+-- Each objective formula in an epistemic formula mentions the facts below n only, and no new fact.
+unfoldable pub EpistemicFacts : (n : ℕ) → Epistemic → Type 0
+EpistemicFacts n (known f) = ObjectiveFacts n f
+EpistemicFacts n (not-known f) = ObjectiveFacts n f
+EpistemicFacts n (all-of f g) = EpistemicFacts n f × EpistemicFacts n g
+EpistemicFacts n (any-of f g) = EpistemicFacts n f × EpistemicFacts n g
+
+-- A change's theory mentions the facts below n only, and each reply of a probe no new fact besides.
+unfoldable pub ActionFacts : (n : ℕ) → Action → Type 0
+ActionFacts n (change f) = FactsBelow n f
+ActionFacts n (probe fs) = (f : Objective) → List·Memᴰ f fs → ObjectiveFacts n f
+
+-- Each condition in a program mentions the facts below n only, and no new fact.
+unfoldable pub ProgramFacts : (n : ℕ) → Program → Type 0
+unfolding EpistemicFacts
+ProgramFacts n end = Unit {0}
+ProgramFacts n (act a rest) = ProgramFacts n rest
+ProgramFacts n (branch f p q rest) = EpistemicFacts n f × ProgramFacts n p × ProgramFacts n q × ProgramFacts n rest
+
+-- The formulas of a sheet mention its facts only, and new facts in theories only.
+pub record SheetFacts (sheet : Sheet) : Type 0 where
+  pub action-facts : (a : Action) → List·Memᴰ a (sheet .actions) → ActionFacts (sheet .facts) a
+  pub start-facts : ObjectiveFacts (sheet .facts) (sheet .start)
+  pub goal-facts : EpistemicFacts (sheet .facts) (sheet .goal)
+  pub program-facts : ProgramFacts (sheet .facts) (sheet .program)
+
+module _ (n : ℕ) where
+  -- An objective formula that is read, in a theory or not.
+  abbrev Within : Bool → Objective → Type 0
+  Within theory f = FactsBelow n f × (theory ≡ false → NoNew f)
+
+  number-within : Gives (λ i. i < n) (factNumber n)
+  unfolding factNumber
+  number-within = gives-any (λ i. i < n) (field 3) _ (λ i. gives-check (λ j. j < n) (ltb i n) 6 _ (λ t. gives-give (λ j. j < n) i (ltb-true i n t)))
+
+  objective-behind-within : (theory : Bool) (part : Reader Objective) → Gives (Within theory) part → (tag : ℕ) → Gives (Within theory) (objectiveBehind n theory part tag)
+  unfolding objectiveBehind FactsBelow NoNew
+  objective-behind-within theory part within tag =
+      gives-if Q (eqb tag 0) _ _ (gives-give Q bottom (tt, λ o. tt))
+      (gives-if Q (eqb tag 1) _ _ (gives-give Q top (tt, λ o. tt))
+      (gives-if Q (eqb tag 2) _ _ (gives-behind (λ i. i < n) Q (factNumber n) _ number-within (λ i h. gives-give Q (fact i) (h, λ o. tt)))
+      (gives-if Q (eqb tag 3) _ _
+      (gives-check Q theory 7 _ (λ t. gives-behind (λ i. i < n) Q (factNumber n) _ number-within (λ i h. gives-give Q (new-fact i) (h, λ o. not-both t o))))
+      (gives-if Q (eqb tag 4) _ _ (gives-behind Q Q part _ within (λ f h. gives-give Q (negation f) h))
+      (gives-if Q (eqb tag 5) _ _ (two conjunction (λ f g x y. (x, y)) (λ f g x y. (x, y)))
+      (gives-if Q (eqb tag 6) _ _ (two disjunction (λ f g x y. (x, y)) (λ f g x y. (x, y)))
+      (two equivalence (λ f g x y. (x, y)) (λ f g x y. (x, y)))))))))
+    where
+      Q : Objective → Type 0
+      Q = Within theory
+
+      two : (make : Objective → Objective → Objective) → ((f g : Objective) → FactsBelow n f → FactsBelow n g → FactsBelow n (make f g)) → ((f g : Objective) → NoNew f → NoNew g → NoNew (make f g))
+          → Gives Q (part >>= λ f. part >>= λ g. give (make f g))
+      two make low none =
+          gives-behind Q Q part _ within (λ f h. gives-behind Q Q part _ within (λ g k.
+          gives-give Q (make f g) (low f g (h .0) (k .0), λ o. none f g (h .1 o) (k .1 o))))
+
+  objective-within : (theory : Bool) (d : ℕ) → Gives (Within theory) (objective n theory d)
+  unfolding objective
+  objective-within theory zero = gives-refuse (Within theory) 8
+  objective-within theory (suc d) = gives-any (Within theory) (field 3) _ (objective-behind-within theory (objective n theory d) (objective-within theory d))
+
+  -- An objective formula that is read outside a theory over n facts mentions those only, and no new fact.
+  pub objective-facts : (d : ℕ) → Gives (ObjectiveFacts n) (objective n false d)
+  objective-facts d s p f q e = let h = objective-within false d s p f q e in (h .0, h .1 refl)
+
+  -- A theory that is read mentions those only.
+  pub theory-facts : (d : ℕ) → Gives (FactsBelow n) (objective n true d)
+  theory-facts d s p f q e = objective-within true d s p f q e .0
+
+  epistemic-facts : (d : ℕ) → Gives (EpistemicFacts n) (epistemic n d)
+  unfolding epistemic epistemicBehind EpistemicFacts
+  epistemic-facts zero = gives-refuse (EpistemicFacts n) 8
+  epistemic-facts (suc d) =
+      gives-any Q (field 2) _ (λ tag.
+      gives-if Q (eqb tag 0) _ _ (gives-behind (ObjectiveFacts n) Q (objective n false d) _ (objective-facts d) (λ f h. gives-give Q (known f) h))
+      (gives-if Q (eqb tag 1) _ _ (gives-behind (ObjectiveFacts n) Q (objective n false d) _ (objective-facts d) (λ f h. gives-give Q (not-known f) h))
+      (gives-if Q (eqb tag 2) _ _
+      (gives-behind Q Q (epistemic n d) _ (epistemic-facts d) (λ f h. gives-behind Q Q (epistemic n d) _ (epistemic-facts d) (λ g k. gives-give Q (all-of f g) (h, k))))
+      (gives-behind Q Q (epistemic n d) _ (epistemic-facts d) (λ f h. gives-behind Q Q (epistemic n d) _ (epistemic-facts d) (λ g k. gives-give Q (any-of f g) (h, k)))))))
+    where
+      Q : Epistemic → Type 0
+      Q = EpistemicFacts n
+
+  replies-facts : (m : ℕ) → Gives (λ fs. (f : Objective) → List·Memᴰ f fs → ObjectiveFacts n f) (objectives n m)
+  unfolding objectives
+  replies-facts zero = gives-give _ [] (λ f m. absurd (List·Memᴰ·not-nil m))
+  replies-facts (suc m) =
+      gives-behind (ObjectiveFacts n) _ (objective n false 16) _ (objective-facts 16) (λ f h.
+      gives-behind (λ fs. (x : Objective) → List·Memᴰ x fs → ObjectiveFacts n x) _ (objectives n m) _ (replies-facts m) (λ fs k.
+      gives-give _ (f ∷ fs) (mem-more (ObjectiveFacts n) f fs h k)))
+
+  one-action-facts : Gives (ActionFacts n) (action n)
+  unfolding action actionBehind ActionFacts
+  one-action-facts =
+      gives-any Q (field 1) _ (λ kind.
+      gives-if Q (eqb kind 0) _ _
+      (gives-behind (FactsBelow n) Q (objective n true 16) _ (theory-facts 16) (λ f h. gives-give Q (change f) h))
+      (gives-any Q (field 4) _ (λ m. gives-check Q (leb 1 m && leb m 8) 5 _ (λ t.
+      gives-behind (λ fs. (f : Objective) → List·Memᴰ f fs → ObjectiveFacts n f) Q (objectives n m) _ (replies-facts m) (λ fs h. gives-give Q (probe fs) h)))))
+    where
+      Q : Action → Type 0
+      Q = ActionFacts n
+
+  list-facts : (k : ℕ) → Gives (λ actions. (a : Action) → List·Memᴰ a actions → ActionFacts n a) (actionList n k)
+  unfolding actionList
+  list-facts zero = gives-give _ [] (λ a m. absurd (List·Memᴰ·not-nil m))
+  list-facts (suc k) =
+      gives-behind (ActionFacts n) _ (action n) _ one-action-facts (λ a h.
+      gives-behind (λ actions. (x : Action) → List·Memᴰ x actions → ActionFacts n x) _ (actionList n k) _ (list-facts k) (λ rest l.
+      gives-give _ (a ∷ rest) (mem-more (ActionFacts n) a rest h l)))
+
+  abbrev Routine : ProgramRead → Type 0
+  Routine c = ProgramFacts n (c .program)
+
+  program-behind-facts : (k : ℕ) (part : ℕ → ℕ → Reader ProgramRead) → ((acts branches : ℕ) → Gives Routine (part acts branches)) → (acts branches tag : ℕ)
+      → Gives Routine (programBehind n k part acts branches tag)
+  unfolding programBehind ProgramFacts
+  program-behind-facts k part facts acts branches tag =
+      gives-if Routine (eqb tag 0) _ _ (gives-give Routine _ tt)
+      (gives-if Routine (eqb tag 1) _ _
+      (gives-check Routine (ltb acts 64) 11 _ (λ t. gives-any Routine (field 5) _ (λ a. gives-check Routine (ltb a k) 9 _ (λ u.
+      gives-behind Routine Routine (part (acts + 1) branches) _ (facts (acts + 1) branches) (λ c h. gives-give Routine _ h)))))
+      (gives-if Routine (eqb tag 2) _ _
+      (gives-check Routine (ltb branches 63) 11 _ (λ t.
+      gives-behind (EpistemicFacts n) Routine (epistemic n 16) _ (epistemic-facts 16) (λ f h.
+      gives-behind Routine Routine (part acts (branches + 1)) _ (facts acts (branches + 1)) (λ x hx.
+      gives-behind Routine Routine (part (x .acts) (x .branches)) _ (facts (x .acts) (x .branches)) (λ y hy.
+      gives-behind Routine Routine (part (y .acts) (y .branches)) _ (facts (y .acts) (y .branches)) (λ z hz.
+      gives-give Routine _ (h, hx, hy, hz)))))))
+      (gives-refuse Routine 10)))
+
+  routine-facts : (k d acts branches : ℕ) → Gives Routine (programWithin n k d acts branches)
+  unfolding programWithin
+  routine-facts k zero acts branches = gives-refuse Routine 11
+  routine-facts k (suc d) acts branches = gives-any Routine (field 2) _ (program-behind-facts k (programWithin n k d) (routine-facts k d) acts branches)
+
+with-facts : (programOf : (n k : ℕ) → Reader ProgramRead) → ((n k : ℕ) → Gives (λ c. ProgramFacts n (c .program)) (programOf n k)) → Gives SheetFacts (fieldsWith programOf)
+with-facts programOf facts =
+    gives-any SheetFacts (field 4) _ (λ edition. gives-check SheetFacts (isEdition edition) 3 _ (λ t.
+    gives-any SheetFacts (field 4) _ (λ n. gives-check SheetFacts (leb 1 n && leb n 8) 4 _ (λ u.
+    gives-any SheetFacts (field 5) _ (λ k.
+    gives-behind (λ actions. (a : Action) → List·Memᴰ a actions → ActionFacts n a) SheetFacts (actionList n k) _ (list-facts n k) (λ actions ha.
+    gives-behind (ObjectiveFacts n) SheetFacts (objective n false 16) _ (objective-facts n 16) (λ start hs.
+    gives-behind (EpistemicFacts n) SheetFacts (epistemic n 16) _ (epistemic-facts n 16) (λ goal hg.
+    gives-behind (λ c. ProgramFacts n (c .program)) SheetFacts (programOf n k) _ (facts n k) (λ c hc.
+    gives-give SheetFacts _ (record { action-facts = ha; start-facts = hs; goal-facts = hg; program-facts = hc }))))))))))
+
+fields-facts : Gives SheetFacts sheetFields
+unfolding sheetFields
+fields-facts = with-facts (λ n k. programWithin n k 128 0 0) (λ n k. routine-facts n k 128 0 0)
+
+-- The formulas of an accepted sheet mention its facts only, and new facts in theories only.
+pub accepted-facts : (bytes : List ℕ) (sheet : Sheet) → reading bytes ≡ accepted sheet → SheetFacts sheet
+accepted-facts bytes sheet e = let how = accepted-how bytes sheet e in fields-facts bytes 0 sheet (how .position) (how .fields)

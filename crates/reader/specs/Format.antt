@@ -33,6 +33,11 @@ unfoldable pub _>>=_ : {A B : Type 0} → Reader A → (A → Reader B) → Read
 unfolding andThen
 _>>=_ m k bytes p = andThen (m bytes p) (λ a q. k a bytes q)
 
+-- What was found, with another value made of it.
+unfoldable pub mapped : {A B : Type 0} → (A → B) → Read A → Read B
+mapped g (got a p) = got (g a) p
+mapped g (fault r) = fault r
+
 -- Reading nothing and giving a value; refusing; going on only if a test passes.
 unfoldable pub give : {A : Type 0} → A → Reader A
 give a bytes p = got a p
@@ -112,13 +117,17 @@ actionBehind n kind =
     if eqb kind 0 then (do f ← objective n true deepest; give (change f))
     else (do m ← field 4; check (leb 1 m && leb m 8) 5 (do fs ← objectives n m; give (probe fs)))
 
--- k actions, one after the other, each behind its 1-bit kind.
+-- An action, behind its 1-bit kind.
+unfoldable pub action : (n : ℕ) → Reader Action
+unfolding actionBehind field _>>=_
+action n = field 1 >>= actionBehind n
+
+-- k actions, one after the other.
 unfoldable pub actionList : (n k : ℕ) → Reader (List Action)
-unfolding actionBehind field _>>=_ give
+unfolding action _>>=_ give
 actionList n zero = give []
 actionList n (suc k) = do
-  kind ← field 1
-  a ← actionBehind n kind
+  a ← action n
   rest ← actionList n k
   give (a ∷ rest)
 

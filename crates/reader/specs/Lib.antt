@@ -2,3 +2,8 @@ pub mod Syntax
 pub mod Truth
 pub mod Bits
 pub mod Format
+pub mod Nodes
+pub mod Answers
+pub mod NodeAnswers
+pub mod Tables
+pub mod Stages

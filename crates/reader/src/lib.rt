@@ -1,1 +1,30 @@
-// No code yet: the packed sheet and what it means (specs/), with laws (proofs/).
+// The packed sheet: reading it, and walking through an accepted one.
+mod actions;
+mod bits;
+mod formula;
+mod limits;
+mod nodes;
+mod program;
+mod refusal;
+mod sheet;
+
+pub use formula::Evaluated;
+pub use formula::View;
+pub use limits::ACTION_NODES;
+pub use limits::ACTIONS_AT;
+pub use limits::BRANCH_NODES;
+pub use limits::BYTES;
+pub use limits::DEPTH;
+pub use nodes::ActionNode;
+pub use nodes::EpistemicNode;
+pub use nodes::HeaderRead;
+pub use nodes::ProgramNode;
+pub use nodes::action_node;
+pub use nodes::epistemic_node;
+pub use nodes::header;
+pub use nodes::objective_states;
+pub use nodes::program_node;
+pub use refusal::Refusal;
+pub use refusal::number;
+pub use sheet::Answer;
+pub use sheet::read;

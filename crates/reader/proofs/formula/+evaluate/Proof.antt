@@ -1,0 +1,216 @@
+-- `reader::evaluate` meets its contract: each return by the law of the tag that led there. The measure is the levels left. Assumes nothing.
+use borrow.Author.Needs.{needs}
+use native.Mathlib.Omega.{arith}
+use mathlib.Core.Path.{_≡_, sym, ap, _∙_}
+use Prim.Native.Nat.{ℕ, _-_, _<_}
+use denote.Ref.{now}
+use mathlib.Core.List.{List}
+use Rattle.lists.specs.Lists.{if_then_else_}
+use Rattle.states.specs.declared.States.{States}
+use Rattle.reader.specs.declared.formula.View.{View}
+use Rattle.reader.specs.Syntax.{Objective}
+use Rattle.reader.specs.Format.{Read, Reader, got, mapped, field, objective, objectiveBehind}
+use Rattle.reader.specs.Answers.{numberOf, fieldRead, setRead, inTheory, table}
+use Rattle.reader.specs.Tables.{fromOf, toOf, factTable}
+use Rattle.reader.proofs.ReaderLaws.{objective-none, objective-cut, objective-tag}
+use Rattle.reader.proofs.TableLaws.{trueAt, set-constant, set-fact, set-new, set-outside, set-not, set-two, first-refused, second-refused, tables-true}
+use borrow.Fn.Kinds.{In}
+use borrow.Fn.PlainCycle.{Measures, is, falls, and}
+use Rattle.reader.proofs.formula.evaluate.Reads as self
+use Rattle.reader.proofs.formula.evaluate.Kinds as kinds
+use Rattle.reader.proofs.formula.+evaluate.Lts-evaluate as lts
+use Rattle.reader.proofs.bits.field_at.Reads as field-at
+use Rattle.reader.proofs.formula.evaluate_fact.Reads as evaluate-fact
+use Rattle.reader.proofs.formula.is_theory.Reads as is-theory
+use Rattle.reader.proofs.formula.join.Reads as join
+use Rattle.states.proofs.States.complement.Reads as complement
+use Rattle.states.proofs.States.uniform.Reads as uniform
+use Rattle.reader.proofs.formula.+evaluate.{statement}
+use Rattle.reader.proofs.formula.+evaluate.Tie.{close}
+
+abbrev μ : Measures 1 kinds.ps ℕ
+μ κs a = a .1 .1 .0
+
+abbrev given : ℕ → In 1 kinds.ps
+given t = and 1 kinds.ps (is 1 kinds.ps μ t) self.Pre
+
+abbrev below : ℕ → In 1 kinds.ps
+below t = and 1 kinds.ps (falls 1 kinds.ps _<_ μ t) self.Pre
+
+abbrev calls : ℕ → lts.Claims
+calls t = (field-at.Asked, field-at.Learnt, uniform.Asked, uniform.Learnt, evaluate-fact.Asked, evaluate-fact.Learnt, is-theory.Asked, is-theory.Learnt, below t, self.Post, complement.Asked, complement.Learnt, join.Asked, join.Learnt)
+
+module _ (t : ℕ) where
+  -- The tag is read.
+  abbrev Told : Type 0
+  Told = lts.After-known-told (calls t) (given t) self.Post
+
+  abbrev start : Told → lts.Start (calls t) (given t) self.Post
+  start c = c .before .before .before .before .before .before
+
+  abbrev bytes : Told → List ℕ
+  bytes c = now (start c .args .s)
+
+  abbrev view : Told → View
+  view c = start c .args .view
+
+  abbrev tag : Told → ℕ
+  tag c = c .before .tag .given .0 .0
+
+  abbrev next : Told → ℕ
+  next c = c .before .tag .given .0 .1 .0
+
+  -- The formula's set, and its parts.
+  abbrev value : Told → Read States
+  value c = let a = start c .args in mapped (table (a .view)) (objective (a .n) (inTheory (a .view)) (a .left) (now (a .s)) (a .at))
+
+  abbrev part : Told → Reader Objective
+  part c = objective (start c .args .n) (inTheory (view c)) (start c .args .left - 1)
+
+  abbrev sets : Told → Read Objective → Read States
+  sets c = mapped (trueAt (fromOf (view c)) (toOf (view c)))
+
+  abbrev behind : Told → Read States
+  behind c = sets c (objectiveBehind (start c .args .n) (inTheory (view c)) (part c) (tag c) (bytes c) (next c))
+
+  whole : (c : Told) → value c ≡ behind c
+  unfolding fieldRead
+  whole c =
+      let a = start c .args in
+      let read : field 3 (now (a .s)) (a .at) ≡ got (tag c) (next c) = sym (c .before .before .before .field-at .ensures) ∙ ap fieldRead (c .before .tag .given .1) in
+      ap (mapped (table (a .view))) (objective-tag (a .n) (inTheory (a .view)) (now (a .s)) (a .at) (a .left) (c .before .before .before .before .if1 .left) read)
+      ∙ tables-true (a .view) _
+
+  -- The first part is evaluated.
+  abbrev First : Type 0
+  First = lts.After-known-told3 (calls t) (given t) self.Post
+
+  abbrev told : First → Told
+  told c = c .before .before .before .before .before .before .before
+
+  first : (c : First) → sets (told c) (part (told c) (bytes (told c)) (next (told c))) ≡ got (c .before .a .given .0 .0) (c .before .a .given .0 .1 .0)
+  unfolding setRead
+  first c = sym (tables-true (view (told c)) (part (told c) (bytes (told c)) (next (told c)))) ∙ sym (c .before .before .before .evaluate .ensures) ∙ ap setRead (c .before .a .given .1)
+
+  returns : lts.Need-returns (calls t) (given t) self.Post
+  unfolding setRead numberOf mapped
+  returns c =
+      let a = c .before .before .args in
+      sym (ap (mapped (table (a .view))) (objective-none (a .n) (inTheory (a .view)) (now (a .s)) (a .at) (a .left) (c .if1 .taken)))
+
+  field-at-requires : lts.Need-field-at-requires (calls t) (given t) self.Post
+  field-at-requires c κs = search needs
+
+  enum-told : lts.Need-enum-told (calls t) (given t) self.Post
+  enum-told c = search needs
+
+  enum-known-tag : lts.Need-enum-known-tag (calls t) (given t) self.Post
+  enum-known-tag c = search needs
+
+  uniform-requires : lts.Need-uniform-requires (calls t) (given t) self.Post
+  uniform-requires c κs = search needs
+
+  returns-2 : lts.Need-returns-2 (calls t) (given t) self.Post
+  unfolding setRead numberOf mapped
+  returns-2 c =
+      let d = c .before .before in
+      ap (λ (x : States). got x (next d)) (c .uniform .ensures) ∙ sym (whole d ∙ set-constant (fromOf (view d)) (toOf (view d)) (start d .args .n) (inTheory (view d)) (part d) (bytes d) (next d) (tag d) (c .before .if2 .taken))
+
+  evaluate-fact-requires : lts.Need-evaluate-fact-requires (calls t) (given t) self.Post
+  evaluate-fact-requires c κs = search needs
+
+  returns-3 : lts.Need-returns-3 (calls t) (given t) self.Post
+  unfolding setRead numberOf mapped factTable if_then_else_
+  returns-3 c =
+      let d = c .before .before .before in
+      c .evaluate-fact .ensures ∙ sym (whole d ∙ set-fact (fromOf (view d)) (toOf (view d)) (start d .args .n) (inTheory (view d)) (part d) (bytes d) (next d) (tag d) (c .before .if3 .taken))
+
+  is-theory-requires : lts.Need-is-theory-requires (calls t) (given t) self.Post
+  is-theory-requires c κs = search needs
+
+  evaluate-fact-requires-2 : lts.Need-evaluate-fact-requires-2 (calls t) (given t) self.Post
+  evaluate-fact-requires-2 c κs = search needs
+
+  returns-4 : lts.Need-returns-4 (calls t) (given t) self.Post
+  unfolding setRead numberOf mapped factTable if_then_else_
+  returns-4 c =
+      let d = c .before .before .before .before .before .before in
+      c .evaluate-fact2 .ensures ∙ sym (whole d ∙ set-new (fromOf (view d)) (toOf (view d)) (start d .args .n) (inTheory (view d)) (part d) (bytes d) (next d) (tag d) (c .before .before .before .if4 .taken) (sym (c .before .before .is-theory .ensures) ∙ c .before .if5 .taken))
+
+  returns-5 : lts.Need-returns-5 (calls t) (given t) self.Post
+  unfolding setRead numberOf mapped
+  returns-5 c =
+      let d = c .before .before .before .before .before in
+      sym (whole d ∙ set-outside (fromOf (view d)) (toOf (view d)) (start d .args .n) (inTheory (view d)) (part d) (bytes d) (next d) (tag d) (c .before .before .if4 .taken) (sym (c .before .is-theory .ensures) ∙ c .if5 .left))
+
+  sub-evaluate : lts.Need-sub-evaluate (calls t) (given t) self.Post
+  sub-evaluate c = search needs
+
+  evaluate-requires : lts.Need-evaluate-requires (calls t) (given t) self.Post
+  evaluate-requires c κs = search needs
+
+  enum-known-r : lts.Need-enum-known-r (calls t) (given t) self.Post
+  enum-known-r c = search needs
+
+  enum-known-a : lts.Need-enum-known-a (calls t) (given t) self.Post
+  enum-known-a c = search needs
+
+  complement-requires : lts.Need-complement-requires (calls t) (given t) self.Post
+  complement-requires c κs = search needs
+
+  returns-6 : lts.Need-returns-6 (calls t) (given t) self.Post
+  unfolding setRead numberOf mapped
+  returns-6 c =
+      let f = c .before .before in
+      let d = told f in
+      ap (λ (x : States). got x (f .before .a .given .0 .1 .0)) (c .complement .ensures) ∙ sym (whole d ∙ set-not (fromOf (view d)) (toOf (view d)) (start d .args .n) (inTheory (view d)) (part d) (bytes d) (next d) (tag d) (c .before .if6 .taken) (first f))
+
+  sub-evaluate-2 : lts.Need-sub-evaluate-2 (calls t) (given t) self.Post
+  sub-evaluate-2 c = search needs
+
+  evaluate-requires-2 : lts.Need-evaluate-requires-2 (calls t) (given t) self.Post
+  evaluate-requires-2 c κs = search needs
+
+  enum-known-r-2 : lts.Need-enum-known-r-2 (calls t) (given t) self.Post
+  enum-known-r-2 c = search needs
+
+  enum-known-b : lts.Need-enum-known-b (calls t) (given t) self.Post
+  enum-known-b c = search needs
+
+  join-requires : lts.Need-join-requires (calls t) (given t) self.Post
+  join-requires c κs = search needs
+
+  returns-7 : lts.Need-returns-7 (calls t) (given t) self.Post
+  unfolding setRead numberOf mapped fieldRead
+  returns-7 c =
+      let a = c .before .before .before .before .before .args in
+      let cut = sym (c .before .before .field-at .ensures) ∙ ap fieldRead (c .enum-told .given .1) in
+      sym (ap (mapped (table (a .view))) (objective-cut (a .n) (inTheory (a .view)) (now (a .s)) (a .at) (a .left) (c .before .before .before .if1 .left) cut))
+
+  returns-8 : lts.Need-returns-8 (calls t) (given t) self.Post
+  unfolding setRead numberOf mapped
+  returns-8 c =
+      let d = c .before .before .before .before .before .before .before in
+      let none = sym (tables-true (view d) (part d (bytes d) (next d))) ∙ sym (c .before .before .before .evaluate .ensures) ∙ ap setRead (c .before .r .given .1) in
+      sym (whole d ∙ first-refused (fromOf (view d)) (toOf (view d)) (start d .args .n) (inTheory (view d)) (part d) (bytes d) (next d) (tag d) (omega (arith, c .before .before .before .before .if4 .left, c .before .before .before .before .before .if3 .left, c .before .before .before .before .before .before .if2 .left)) none)
+
+  returns-9 : lts.Need-returns-9 (calls t) (given t) self.Post
+  unfolding setRead numberOf mapped
+  returns-9 c =
+      let f = c .before .before .before .before .before in
+      let d = told f in
+      let none = sym (tables-true (view d) (part d (bytes d) (f .before .a .given .0 .1 .0))) ∙ sym (c .before .before .before .evaluate2 .ensures) ∙ ap setRead (c .before .r2 .given .1) in
+      sym (whole d ∙ second-refused (fromOf (view d)) (toOf (view d)) (start d .args .n) (inTheory (view d)) (part d) (bytes d) (next d) (tag d) (omega (arith, c .before .before .before .before .if6 .left, f .before .before .before .before .if4 .left, f .before .before .before .before .before .if3 .left, f .before .before .before .before .before .before .if2 .left)) (first f) none)
+
+  returns-10 : lts.Need-returns-10 (calls t) (given t) self.Post
+  unfolding setRead numberOf mapped
+  returns-10 c =
+      let f = c .before .before .before .before .before .before in
+      let d = told f in
+      let second = sym (tables-true (view d) (part d (bytes d) (f .before .a .given .0 .1 .0))) ∙ sym (c .before .before .before .before .evaluate2 .ensures) ∙ ap setRead (c .before .before .b .given .1) in
+      ap (λ (x : States). got x (c .before .before .b .given .0 .1 .0)) (c .join .ensures)
+      ∙ sym (whole d ∙ set-two (fromOf (view d)) (toOf (view d)) (start d .args .n) (inTheory (view d)) (part d) (bytes d) (next d) (tag d) (omega (arith, c .before .before .before .before .before .if6 .left, f .before .before .before .before .if4 .left, f .before .before .before .before .before .if3 .left, f .before .before .before .before .before .before .if2 .left)) (first f) second)
+
+pub +evaluate-spec : {M : Type 1} → statement M
++evaluate-spec = close μ λ t. lts.spec (calls t) (given t) self.Post
+    (returns t) (field-at-requires t) (enum-told t) (enum-known-tag t) (uniform-requires t) (returns-2 t) (evaluate-fact-requires t) (returns-3 t) (is-theory-requires t) (evaluate-fact-requires-2 t) (returns-4 t) (returns-5 t) (sub-evaluate t) (evaluate-requires t) (enum-known-r t) (enum-known-a t) (complement-requires t) (returns-6 t) (sub-evaluate-2 t) (evaluate-requires-2 t) (enum-known-r-2 t) (enum-known-b t) (join-requires t) (returns-7 t) (returns-8 t) (returns-9 t) (returns-10 t)

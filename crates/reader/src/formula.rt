@@ -1,0 +1,209 @@
+// Objective and epistemic formulas: reading them, and the states in which one holds.
+use crate::bits::Field;
+use crate::bits::field_at;
+use crate::bits::wide;
+use crate::refusal::Refusal;
+use states::States;
+ghost use mathlib.Core.Path.{_≡_};
+ghost use mathlib.Core.Bool.{true, false};
+ghost use Prim.Native.Nat.{_≤_, _<_};
+ghost use lib.ListN.{length};
+ghost use Rattle.states.specs.Sets.{member, setOf};
+ghost use Rattle.reader.specs.Truth.{factIn};
+ghost use Rattle.reader.specs.Format.{mapped, factNumber, objective, epistemic};
+ghost use Rattle.reader.specs.Answers.{setRead, endRead, inTheory, table, ending};
+ghost use Rattle.reader.specs.Tables.{factTable, joined};
+
+// A set of states and the position after what was read, or why it was refused.
+pub enum Evaluated {
+    Holds(States, usize),
+    Refused(Refusal),
+}
+
+// The states that a formula is evaluated in, all at once.
+pub enum View {
+    // Outside a theory: each state.
+    States,
+    // In a theory: each next state of one state.
+    Next(u8),
+    // In a theory: each state, for one next state.
+    Before(u8),
+}
+
+// The position after what was read, or why it was refused.
+pub(crate) enum Walked {
+    To(usize),
+    Refused(Refusal),
+}
+
+// The states in which fact i is true.
+fn holding_fact(i: usize) -> States
+    requires { ⌜ i < 8 ⌝ }
+    ensures { λ r. ⌜ r ≡ setOf (λ t. factIn t i) ⌝ }
+{
+    match i {
+        0 => repeated(0xAAAA_AAAA_AAAA_AAAA),
+        1 => repeated(0xCCCC_CCCC_CCCC_CCCC),
+        2 => repeated(0xF0F0_F0F0_F0F0_F0F0),
+        3 => repeated(0xFF00_FF00_FF00_FF00),
+        4 => repeated(0xFFFF_0000_FFFF_0000),
+        5 => repeated(0xFFFF_FFFF_0000_0000),
+        6 => States {
+            w0: 0,
+            w1: u64::MAX,
+            w2: 0,
+            w3: u64::MAX,
+        },
+        _ => States {
+            w0: 0,
+            w1: 0,
+            w2: u64::MAX,
+            w3: u64::MAX,
+        },
+    }
+}
+
+fn repeated(w: u64) -> States
+    ensures { λ r. ⌜ r ≡ record { w0 = w; w1 = w; w2 = w; w3 = w } ⌝ }
+{
+    States {
+        w0: w,
+        w1: w,
+        w2: w,
+        w3: w,
+    }
+}
+
+// The states of a view in which fact i is true, as a fact or as a new fact.
+fn seen(i: usize, is_new: bool, view: View) -> States
+    requires { ⌜ i < 8 ⌝ }
+    ensures { λ r. ⌜ r ≡ factTable «is_new» view i ⌝ }
+{
+    match view {
+        View::States => holding_fact(i),
+        View::Next(state) => {
+            if is_new {
+                return holding_fact(i);
+            }
+            States::uniform((wide(state) >> i) % 2 == 1)
+        }
+        View::Before(next) => {
+            if is_new {
+                return States::uniform((wide(next) >> i) % 2 == 1);
+            }
+            holding_fact(i)
+        }
+    }
+}
+
+// A fact number below n, and the states of a view in which the fact is true.
+fn evaluate_fact(s: &[u8], at: usize, n: usize, is_new: bool, view: View) -> Evaluated
+    requires { ⌜ length (now s) ≤ 1024 ⌝ }
+    ensures { λ r. ⌜ setRead r ≡ mapped (factTable «is_new» view) (factNumber n (now (s .entry)) at) ⌝ }
+{
+    match field_at(s, at, 3) {
+        Field::Cut => Evaluated::Refused(Refusal::Cut),
+        Field::Value(i, next) => {
+            if n <= i {
+                return Evaluated::Refused(Refusal::FactNumber);
+            }
+            Evaluated::Holds(seen(i, is_new, view), next)
+        }
+    }
+}
+
+// Whether a view is one of a theory, in which new facts may stand.
+fn is_theory(view: View) -> bool
+    ensures { λ r. ⌜ r ≡ inTheory view ⌝ }
+{
+    match view {
+        View::States => false,
+        View::Next(state) => true,
+        View::Before(next) => true,
+    }
+}
+
+// The set that a formula of two parts has, by its tag.
+fn join(tag: usize, a: States, b: States) -> States
+    ensures { λ r. ⌜ r ≡ setOf (λ t. joined tag (member a t) (member b t)) ⌝ }
+{
+    if tag == 5 {
+        return a.intersect(b);
+    }
+    if tag == 6 {
+        return a.union(b);
+    }
+    a.agreement(b)
+}
+
+// An objective formula over n facts with `left` levels of depth left, evaluated in all states of a view at once.
+pub(crate) fn evaluate(s: &[u8], at: usize, left: usize, n: usize, view: View) -> Evaluated
+    requires { ⌜ length (now s) ≤ 1024 ⌝ }
+    ensures { λ r. ⌜ setRead r ≡ mapped (table view) (objective n (inTheory view) left (now (s .entry)) at) ⌝ }
+{
+    if left == 0 {
+        return Evaluated::Refused(Refusal::Depth);
+    }
+    match field_at(s, at, 3) {
+        Field::Cut => Evaluated::Refused(Refusal::Cut),
+        Field::Value(tag, next) => {
+            if tag < 2 {
+                return Evaluated::Holds(States::uniform(tag == 1), next);
+            }
+            if tag == 2 {
+                return evaluate_fact(s, next, n, false, view);
+            }
+            if tag == 3 {
+                if is_theory(view) {
+                    return evaluate_fact(s, next, n, true, view);
+                }
+                return Evaluated::Refused(Refusal::NewFact);
+            }
+            match evaluate(s, next, left - 1, n, view) {
+                Evaluated::Refused(r) => Evaluated::Refused(r),
+                Evaluated::Holds(a, second) => {
+                    if tag == 4 {
+                        return Evaluated::Holds(a.complement(), second);
+                    }
+                    match evaluate(s, second, left - 1, n, view) {
+                        Evaluated::Refused(r) => Evaluated::Refused(r),
+                        Evaluated::Holds(b, end) => Evaluated::Holds(join(tag, a, b), end),
+                    }
+                }
+            }
+        }
+    }
+}
+
+// An epistemic formula over n facts with `left` levels of depth left.
+pub(crate) fn read_epistemic(s: &[u8], at: usize, left: usize, n: usize) -> Walked
+    requires { ⌜ length (now s) ≤ 1024 ⌝ }
+    ensures { λ r. ⌜ endRead r ≡ mapped ending (epistemic n left (now (s .entry)) at) ⌝ }
+{
+    if left == 0 {
+        return Walked::Refused(Refusal::Depth);
+    }
+    match field_at(s, at, 2) {
+        Field::Cut => Walked::Refused(Refusal::Cut),
+        Field::Value(tag, next) => {
+            if tag < 2 {
+                return read_objective(s, next, left - 1, n, View::States);
+            }
+            match read_epistemic(s, next, left - 1, n) {
+                Walked::Refused(r) => Walked::Refused(r),
+                Walked::To(second) => read_epistemic(s, second, left - 1, n),
+            }
+        }
+    }
+}
+
+// An objective formula in a view, only where it ends.
+pub(crate) fn read_objective(s: &[u8], at: usize, left: usize, n: usize, view: View) -> Walked
+    requires { ⌜ length (now s) ≤ 1024 ⌝ }
+    ensures { λ r. ⌜ endRead r ≡ mapped ending (objective n (inTheory view) left (now (s .entry)) at) ⌝ }
+{
+    match evaluate(s, at, left, n, view) {
+        Evaluated::Refused(r) => Walked::Refused(r),
+        Evaluated::Holds(set, end) => Walked::To(end),
+    }
+}

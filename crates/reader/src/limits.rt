@@ -1,0 +1,18 @@
+// The limits of a sheet (document 01, "The sheet").
+
+// The most bytes of a sheet.
+pub const BYTES: usize = 1024;
+
+// The deepest level of a formula.
+pub const DEPTH: usize = 16;
+
+// The most action nodes and branch nodes of a program.
+pub const ACTION_NODES: usize = 64;
+
+pub const BRANCH_NODES: usize = 63;
+
+// The levels that a program may have, with an end: enough for all its nodes.
+pub(crate) const LEVELS: usize = 128;
+
+// Where the actions begin, behind the header.
+pub const ACTIONS_AT: usize = 13;
