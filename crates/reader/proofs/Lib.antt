@@ -2,6 +2,8 @@ pub mod StateLaws
 pub mod FormatLaws
 pub mod FormulaLaws
 pub mod SheetLaws
+pub mod Cases
+pub mod AnswerLaws
 pub mod Standing
 pub mod BitLaws
 pub mod ReaderLaws

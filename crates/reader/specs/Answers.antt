@@ -39,9 +39,9 @@ answerOf Said.Accepted = accepted tt
 answerOf (Said.Refused r) = refused (numberOf r)
 
 -- An answer without the sheet.
-unfoldable pub told : {A : Type 0} → Answer A → Answer (Unit {0})
-told (accepted a) = accepted tt
-told (refused r) = refused r
+unfoldable pub withoutSheet : {A : Type 0} → Answer A → Answer (Unit {0})
+withoutSheet (accepted a) = accepted tt
+withoutSheet (refused r) = refused r
 
 -- What the code finds from a position on: a number; only where it ends; a set; the nodes counted so far.
 unfoldable pub fieldRead : Field → Read ℕ

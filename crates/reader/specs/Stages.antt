@@ -66,12 +66,12 @@ module _ (bytes : List ℕ) (n k : ℕ) where
   afterHeader = andThen (mapped ending (actionList n k bytes 13)) (λ u p. afterActions p)
 
 -- The answer that a stage leads to.
-unfoldable pub concluded : Read (Unit {0}) → Answer (Unit {0})
-concluded (got u p) = accepted tt
-concluded (fault r) = refused r
+unfoldable pub answerAt : Read (Unit {0}) → Answer (Unit {0})
+answerAt (got u p) = accepted tt
+answerAt (fault r) = refused r
 
 unfoldable pub stages : List ℕ → Answer (Unit {0})
-stages bytes = if leb (length bytes) 1024 then concluded (andThen (header bytes 0) (λ h p. afterHeader bytes (h .facts) (h .actions))) else refused 1
+stages bytes = if leb (length bytes) 1024 then answerAt (andThen (header bytes 0) (λ h p. afterHeader bytes (h .facts) (h .actions))) else refused 1
 
 -- What a program begins with: it ends, an action node, or a branch node with its condition; and the nodes counted with it.
 pub data Beginning : Type 0 where

@@ -24,7 +24,7 @@ ghost use lib.Dec.{ltb};
 ghost use lib.ListN.{length};
 ghost use Rattle.states.specs.Sets.{member, setOf};
 ghost use Rattle.reader.specs.Format.{isPadding, reading};
-ghost use Rattle.reader.specs.Answers.{answerOf, told, endRead};
+ghost use Rattle.reader.specs.Answers.{answerOf, withoutSheet, endRead};
 ghost use Rattle.reader.specs.Stages.{afterProgram, afterStart, afterActions, afterHeader};
 
 // The reader's answer.
@@ -123,7 +123,7 @@ fn after_header(s: &[u8], n: usize, k: usize) -> Walked
 
 // Whether the bytes are a sheet, or why they are refused.
 pub fn read(s: &[u8]) -> Answer
-    ensures { λ r. ⌜ answerOf r ≡ told (reading (now (s .entry))) ⌝ }
+    ensures { λ r. ⌜ answerOf r ≡ withoutSheet (reading (now (s .entry))) ⌝ }
 {
     match header(s) {
         HeaderRead::Refused(r) => Answer::Refused(r),

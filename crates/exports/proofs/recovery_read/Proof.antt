@@ -3,7 +3,7 @@ use mathlib.Core.Path.{sym, ap, _∙_}
 use Rattle.reader.specs.Format.{reading}
 use Rattle.reader.specs.Answers.{answerOf}
 use Rattle.exports.specs.Numbers.{numberFor}
-use Rattle.exports.proofs.NumberLaws.{number-told}
+use Rattle.exports.proofs.NumberLaws.{number-without}
 use borrow.Author.Needs.{needs}
 use Rattle.exports.proofs.recovery_read.Statement.{statement}
 use Rattle.exports.proofs.recovery_read.Tie as tie
@@ -24,13 +24,13 @@ returns : tie.Need-returns
 unfolding answerOf numberFor
 returns c =
     let e = sym (ap answerOf (c .enum-told .given .1)) ∙ c .before .before .read .ensures in
-    ap numberFor e ∙ number-told (reading (c .before .before .before .before .args .s .now))
+    ap numberFor e ∙ number-without (reading (c .before .before .before .before .args .s .now))
 
 returns-2 : tie.Need-returns-2
 unfolding answerOf numberFor
 returns-2 c =
     let e = sym (ap answerOf (c .before .before .r .given .1)) ∙ c .before .before .before .before .read .ensures in
-    c .number .ensures ∙ ap numberFor e ∙ number-told (reading (c .before .before .before .before .before .before .args .s .now))
+    c .number .ensures ∙ ap numberFor e ∙ number-without (reading (c .before .before .before .before .before .before .args .s .now))
 
 pub recovery-read-spec : {M : Type 1} → statement M
 recovery-read-spec = tie.close (tie.spec read-requires enum-told enum-known-r number-requires returns returns-2)

@@ -1,0 +1,64 @@
+-- An answer of the code is determined by what it means, so a contract through the meaning gives it outright. Assumes nothing.
+use Prim.Native.Nat.{ℕ}
+use mathlib.Core.Path.{_≡_, refl, sym, ap, _∙_}
+use lib.Dec.{eqb}
+use Rattle.lists.specs.Lists.{if_then_else_}
+use Rattle.reader.specs.Format.{Answer, accepted, refused}
+use Rattle.reader.specs.Answers.{numberOf, answerOf}
+use Rattle.reader.specs.declared.refusal.Refusal.{Refusal}
+use Rattle.reader.specs.declared.sheet.Answer.{Answer as Said}
+
+-- The refusal of a number.
+refusalOf : ℕ → Refusal
+refusalOf k =
+    if eqb k 1 then Refusal.Length
+    else if eqb k 2 then Refusal.Cut
+    else if eqb k 3 then Refusal.Edition
+    else if eqb k 4 then Refusal.Facts
+    else if eqb k 5 then Refusal.Replies
+    else if eqb k 6 then Refusal.FactNumber
+    else if eqb k 7 then Refusal.NewFact
+    else if eqb k 8 then Refusal.Depth
+    else if eqb k 9 then Refusal.ActionNumber
+    else if eqb k 10 then Refusal.Loop
+    else if eqb k 11 then Refusal.Nodes
+    else if eqb k 12 then Refusal.Padding
+    else if eqb k 13 then Refusal.NoStart
+    else if eqb k 14 then Refusal.NoNext
+    else Refusal.NoReply
+
+number-refusal : (r : Refusal) → refusalOf (numberOf r) ≡ r
+unfolding refusalOf numberOf if_then_else_
+number-refusal Refusal.Length = refl
+number-refusal Refusal.Cut = refl
+number-refusal Refusal.Edition = refl
+number-refusal Refusal.Facts = refl
+number-refusal Refusal.Replies = refl
+number-refusal Refusal.FactNumber = refl
+number-refusal Refusal.NewFact = refl
+number-refusal Refusal.Depth = refl
+number-refusal Refusal.ActionNumber = refl
+number-refusal Refusal.Loop = refl
+number-refusal Refusal.Nodes = refl
+number-refusal Refusal.Padding = refl
+number-refusal Refusal.NoStart = refl
+number-refusal Refusal.NoNext = refl
+number-refusal Refusal.NoReply = refl
+
+-- Refusals with the same number are the same.
+pub same-number : (r q : Refusal) → numberOf r ≡ numberOf q → r ≡ q
+same-number r q e = sym (number-refusal r) ∙ ap refusalOf e ∙ number-refusal q
+
+-- The answer of a meaning.
+saidOf : Answer (Unit {0}) → Said
+saidOf (accepted u) = Said.Accepted
+saidOf (refused k) = Said.Refused (refusalOf k)
+
+said-answer : (a : Said) → saidOf (answerOf a) ≡ a
+unfolding saidOf answerOf
+said-answer Said.Accepted = refl
+said-answer (Said.Refused r) = ap Said.Refused (number-refusal r)
+
+-- Answers with the same meaning are the same.
+pub same-answer : (a b : Said) → answerOf a ≡ answerOf b → a ≡ b
+same-answer a b e = sym (said-answer a) ∙ ap saidOf e ∙ said-answer b
