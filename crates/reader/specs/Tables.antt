@@ -20,9 +20,9 @@ toOf (View.Next s) t = t
 toOf (View.Before n) t = n
 
 -- The states of a view in which fact i is true; as a new fact, it is one of the next state.
-unfoldable pub factTable : (isNew : Bool) → View → (i : ℕ) → States
+unfoldable pub factTable : (fresh : Bool) → View → (i : ℕ) → States
 unfolding setOf factIn fromOf toOf if_then_else_
-factTable isNew view i = setOf (λ t. factIn (if isNew then toOf view t else fromOf view t) i)
+factTable fresh view i = setOf (λ t. factIn (if fresh then toOf view t else fromOf view t) i)
 
 -- The truth of a formula of two parts, by its tag: 5 and; 6 or; 7 equivalence.
 unfoldable pub joined : (tag : ℕ) (x y : Bool) → Bool

@@ -100,7 +100,7 @@ pub(crate) fn read_actions(s: &[u8], at: usize, n: usize, k: usize) -> Walked
     Walked::To(p)
 }
 
-// The states from which the theory at `at` allows a next state.
+// The states from which the theory at `at` allows one next state.
 fn states_before(s: &[u8], at: usize, n: usize, next: u8) -> States
     requires { ⌜ length (now s) ≤ 1024 ⌝ }
     ensures { λ r. ⌜ ((theory : Objective) (end : ℕ) → objective n true 16 (now (s .entry)) at ≡ got theory end → r ≡ table (View.Before next) theory) ⌝ }
@@ -122,8 +122,9 @@ fn states_after(s: &[u8], at: usize, n: usize, state: u8) -> States
     }
 }
 
-// Whether the theory at `at` allows from each state of the space, all of them below `size`, a next state of it. Each state is tried against each next state. When a next state is found,
-// all states that it serves are known at once and needn't be tried again.
+// Whether the theory at `at` allows from each state of the space, all of them below `size`, a next state in the space.
+// Each state is tried against each next state. A next state that is found serves other states too, all told by one
+// evaluation; these needn't be tried.
 fn leads_on(s: &[u8], at: usize, n: usize, space: States, size: usize) -> bool
     requires { ⌜ (length (now s) ≤ 1024) × (size ≤ 256) × ((t : ℕ) → member space t ≡ true → t < size) ⌝ }
     ensures { λ r. ⌜ ((theory : Objective) (end : ℕ) → objective n true 16 (now (s .entry)) at ≡ got theory end → r ≡ every (λ s. exists (λ t. truth theory s t) (members space)) (members space)) ⌝ }

@@ -12,6 +12,7 @@ pub(crate) enum Field {
     Cut,
 }
 
+// A byte as a number of the machine's width.
 pub(crate) fn wide(x: u8) -> usize
     ensures { λ r. ⌜ r ≡ x ⌝ }
 {

@@ -63,6 +63,7 @@ fn holding_fact(i: usize) -> States
     }
 }
 
+// The set of which each word is w.
 fn repeated(w: u64) -> States
     ensures { λ r. ⌜ r ≡ record { w0 = w; w1 = w; w2 = w; w3 = w } ⌝ }
 {
@@ -74,21 +75,21 @@ fn repeated(w: u64) -> States
     }
 }
 
-// The states of a view in which fact i is true, as a fact or as a new fact.
-fn seen(i: usize, is_new: bool, view: View) -> States
+// The states of a view in which fact i is true, as a fact or, where `fresh`, as a new fact.
+fn seen(i: usize, fresh: bool, view: View) -> States
     requires { ⌜ i < 8 ⌝ }
-    ensures { λ r. ⌜ r ≡ factTable «is_new» view i ⌝ }
+    ensures { λ r. ⌜ r ≡ factTable fresh view i ⌝ }
 {
     match view {
         View::States => holding_fact(i),
         View::Next(state) => {
-            if is_new {
+            if fresh {
                 return holding_fact(i);
             }
             States::uniform((wide(state) >> i) % 2 == 1)
         }
         View::Before(next) => {
-            if is_new {
+            if fresh {
                 return States::uniform((wide(next) >> i) % 2 == 1);
             }
             holding_fact(i)
@@ -97,9 +98,9 @@ fn seen(i: usize, is_new: bool, view: View) -> States
 }
 
 // A fact number below n, and the states of a view in which the fact is true.
-fn evaluate_fact(s: &[u8], at: usize, n: usize, is_new: bool, view: View) -> Evaluated
+fn evaluate_fact(s: &[u8], at: usize, n: usize, fresh: bool, view: View) -> Evaluated
     requires { ⌜ length (now s) ≤ 1024 ⌝ }
-    ensures { λ r. ⌜ setRead r ≡ mapped (factTable «is_new» view) (factNumber n (now (s .entry)) at) ⌝ }
+    ensures { λ r. ⌜ setRead r ≡ mapped (factTable fresh view) (factNumber n (now (s .entry)) at) ⌝ }
 {
     match field_at(s, at, 3) {
         Field::Cut => Evaluated::Refused(Refusal::Cut),
@@ -107,7 +108,7 @@ fn evaluate_fact(s: &[u8], at: usize, n: usize, is_new: bool, view: View) -> Eva
             if n <= i {
                 return Evaluated::Refused(Refusal::FactNumber);
             }
-            Evaluated::Holds(seen(i, is_new, view), next)
+            Evaluated::Holds(seen(i, fresh, view), next)
         }
     }
 }

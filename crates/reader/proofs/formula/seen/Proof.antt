@@ -63,7 +63,7 @@ holding-fact-requires-3 c κs = search needs
 
 returns-3 : tie.Need-returns-3
 unfolding factTable fromOf toOf factIn if_then_else_
-returns-3 c = c .holding-fact .ensures ∙ sym (rw (c .before .enum-told .given .1) (either-way (c .before .before .before .args .is-new) (c .before .before .before .args .i)))
+returns-3 c = c .holding-fact .ensures ∙ sym (rw (c .before .enum-told .given .1) (either-way (c .before .before .before .args .fresh) (c .before .before .before .args .i)))
 
 returns-4 : tie.Need-returns-4
 unfolding factTable fromOf toOf factIn if_then_else_
