@@ -144,7 +144,7 @@ fn nodes() -> Vec<Vec<u8>> {
 /// Every number of facts with every fact number, numbers of actions around A, and every m.
 fn numbers() -> Vec<Vec<u8>> {
     let mut sheets = Vec::new();
-    for facts in 1..=MAX_FACTS.min(3) {
+    for facts in 1..=MAX_FACTS {
         for number in 0..8 {
             let start = Objective::Fact(number).or(Objective::True);
             sheets.push(encode(&Sheet {

@@ -68,6 +68,18 @@ impl Size {
         depth: 2,
     };
 
+    /// The numbers of facts between those of the others, up to all 31 actions,
+    /// and programs so short that they are verified quickly.
+    pub const MEDIUM: Size = Size {
+        facts: (3, 7),
+        actions: (4, 31),
+        replies: 8,
+        action_nodes: 5,
+        branch_nodes: 4,
+        sequence: (1, 4),
+        depth: 3,
+    };
+
     /// All eight facts and long programs.
     pub const LARGE: Size = Size {
         facts: (8, 8),
@@ -354,6 +366,8 @@ fn spoil_data(random: &mut Random, sheet: &mut Sheet) {
             let action = spoilt_action(random, number);
             let place = random.between(0, sheet.actions.len());
             sheet.actions.insert(place, action);
+            // The 5-bit field holds no greater number of them.
+            sheet.actions.truncate(31);
         }
     }
 }

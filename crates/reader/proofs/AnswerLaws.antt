@@ -1,4 +1,4 @@
--- An answer of the code is determined by what it means, so a contract through the meaning gives it outright. Assumes nothing.
+-- A refusal is determined by its number, and the answer of `read` by what it means: so its contract gives it outright. Assumes nothing.
 use Prim.Native.Nat.{ℕ}
 use mathlib.Core.Path.{_≡_, refl, sym, ap, _∙_}
 use lib.Dec.{eqb}

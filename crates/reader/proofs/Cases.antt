@@ -1,9 +1,12 @@
--- Small sheets with two faults, which only the order of the tests tells apart, each evaluated by the definitions. Document 01, "From the sheet": "1 comes first, then fields
--- in reading order (8 before the tag is read, 7 before the fact number, 11 and 10 when the tag is known), then 12, 13, then 14 or 15 by action number." Assumes nothing.
+-- Sheets with two faults, which only the order of the tests tells apart, and an accepted sheet, each evaluated by the definitions. Document 01, "From the
+-- sheet": "1 comes first, then fields in reading order (8 before the tag is read, 7 before the fact number, 11 and 10 when the tag is known), then 12, 13, then
+-- 14 or 15 by action number." Assumes nothing.
 use Prim.Native.Nat.{ℕ}
 use mathlib.Core.List.{List, [], _∷_, _++_}
 use mathlib.Core.Path.{_≡_, refl}
-use Rattle.reader.specs.Format.{refused, reading}
+use lib.ListN.{replicate}
+use Rattle.reader.specs.Syntax.{top, fact, negation, known, any-of, end, act, probe}
+use Rattle.reader.specs.Format.{accepted, refused, reading}
 
 -- A row: the bytes, and the number of their refusal.
 pub record Row : Type 0 where
@@ -17,7 +20,7 @@ AllRefused (r ∷ rest) = (reading (r .bytes) ≡ refused (r .number)) × AllRef
 abbrev pub row : List ℕ → ℕ → Row
 row bytes number = record { bytes = bytes; number = number }
 
--- Seven bytes of a program's eight action nodes with number 0, and again.
+-- Eight action nodes of action 0, in seven bytes.
 abbrev eightNodes : List ℕ
 eightNodes = 0x40 ∷ 0x81 ∷ 0x02 ∷ 0x04 ∷ 0x08 ∷ 0x10 ∷ 0x20 ∷ []
 
@@ -27,23 +30,57 @@ tooManyNodes =
     0x11 ∷ 0x08 ∷ 0x90 ∷ 0xA0
     ∷ eightNodes ++ eightNodes ++ eightNodes ++ eightNodes ++ eightNodes ++ eightNodes ++ eightNodes ++ (0x40 ∷ 0x81 ∷ 0x02 ∷ 0x04 ∷ 0x08 ∷ 0x10 ∷ 0x3F ∷ [])
 
+-- The tags and conditions ("true is known") of eight branch nodes, in seven bytes; the first node begins 3 bits before them.
+abbrev eightBranches : List ℕ
+eightBranches = 0x18 ∷ 0x30 ∷ 0x60 ∷ 0xC1 ∷ 0x83 ∷ 0x06 ∷ 0x0C ∷ []
+
+-- One fact and no action; 63 branch nodes, each the then-program of the one before, and the tag of one more, with which the sheet ends.
+abbrev tooManyBranches : List ℕ
+tooManyBranches =
+    0x11 ∷ 0x01 ∷ 0x0C
+    ∷ eightBranches ++ eightBranches ++ eightBranches ++ eightBranches ++ eightBranches ++ eightBranches ++ eightBranches ++ (0x18 ∷ 0x30 ∷ 0x60 ∷ 0xC1 ∷ 0x83 ∷ 0x06 ∷ [])
+
 abbrev pub orders : List Row
 orders =
-    -- A start formula that begins with a new fact, and ends there; and one whose number is 7, of one fact.
-    row (0x11 ∷ 0x03 ∷ []) 7
+    -- 1 before 3: 1,025 bytes, and edition 2.
+    row (replicate 1025 0x21) 1
+    -- 3 before 4: edition 2, and no fact.
+    ∷ row (0x20 ∷ []) 3
+    -- 5 before 2: a probe of 9 replies, and the sheet ends before the first.
+    ∷ row (0x11 ∷ 0x10 ∷ 0xE4 ∷ []) 5
+    -- 7 before 2: a new fact as start formula, and the sheet ends before its number.
+    ∷ row (0x11 ∷ 0x03 ∷ []) 7
+    -- 7 before 6: a new fact as start formula, and its number is 7, of one fact.
     ∷ row (0x11 ∷ 0x03 ∷ 0xE1 ∷ 0x00 ∷ []) 7
-    -- A start formula of 16 negations and one level more.
-    ∷ row (0x11 ∷ 0x04 ∷ 0x92 ∷ 0x49 ∷ 0x24 ∷ 0x92 ∷ 0x49 ∷ 0x21 ∷ 0x08 ∷ []) 8
-    -- A 65th action node, whose number is no action's.
+    -- 8 before 2: a theory that goes on below 16 negations, and the sheet ends inside the tag there.
+    ∷ row (0x11 ∷ 0x0A ∷ 0x49 ∷ 0x24 ∷ 0x92 ∷ 0x49 ∷ 0x24 ∷ 0x90 ∷ []) 8
+    -- 11 before 9: a 65th action node, and its number is no action's.
     ∷ row tooManyNodes 11
-    -- A set padding bit, and a start formula that is false.
+    -- 11 before 2: a 64th branch node, and the sheet ends before its condition.
+    ∷ row tooManyBranches 11
+    -- 12 before 13: a set padding bit, and a start formula that is false.
     ∷ row (0x11 ∷ 0x00 ∷ 0x09 ∷ []) 12
-    -- A start formula and a theory that are false.
+    -- 13 before 14: a start formula that is false, and a theory that is false.
     ∷ row (0x11 ∷ 0x08 ∷ 0x00 ∷ 0x80 ∷ []) 13
-    -- Action 0 a probe with the one reply "fact 0", action 1 a change whose theory is false.
+    -- 15 before 14, by action number: action 0 a probe with the one reply "fact 0", and action 1 a change whose theory is false.
     ∷ row (0x11 ∷ 0x14 ∷ 0x50 ∷ 0x02 ∷ 0x10 ∷ []) 15
     ∷ []
 
 pub orders-hold : AllRefused orders
 unfolding reading
-orders-hold = (refl, (refl, (refl, (refl, (refl, (refl, (refl, tt)))))))
+orders-hold = (refl, (refl, (refl, (refl, (refl, (refl, (refl, (refl, (refl, (refl, (refl, tt)))))))))))
+
+-- Sample 1 is accepted, as this sheet: its probe has two replies, and in each state only one of them is true.
+abbrev pub sample1 : List ℕ
+sample1 = 0x11 ∷ 0x0C ∷ 0x90 ∷ 0x88 ∷ 0x1C ∷ 0x40 ∷ 0x88 ∷ 0x20 ∷ 0x00 ∷ []
+
+pub accepted-holds : reading sample1
+    ≡ accepted (record {
+      facts = 1;
+      actions = probe (fact 0 ∷ negation (fact 0) ∷ []) ∷ [];
+      start = top;
+      goal = any-of (known (fact 0)) (known (negation (fact 0)));
+      program = act 0 end;
+    })
+unfolding reading
+accepted-holds = refl

@@ -4,10 +4,10 @@ pub mod FormulaLaws
 pub mod SheetLaws
 pub mod Cases
 pub mod AnswerLaws
-pub mod Standing
+pub mod StandingLaws
 pub mod BitLaws
 pub mod ReaderLaws
-pub mod ActionLaws
+pub mod TestLaws
 pub mod NodeLaws
 pub mod TableLaws
 pub mod ProgramLaws

@@ -19,7 +19,7 @@ use Rattle.reader.specs.Truth.{isState, states, truth, holds}
 use Rattle.reader.specs.Format.{refused, Read, got, fault, Reader, andThen, mapped, _>>=_, give, refuse, check, field, objective, epistemic, action, actionList, ProgramRead, programWithin, isEdition, sheetFields, isPadding, hasStart, leadsOn, hasReply, unless, faults, decided, afterFields, reading}
 use Rattle.reader.specs.Nodes.{Header, header, ofSheet}
 use Rattle.reader.specs.Answers.{withoutSheet, ending, counts, table}
-use Rattle.reader.specs.Stages.{actionFaults, ended, tested, testedList, spaceOf, afterProgram, afterStart, afterActions, afterHeader, answerAt, stages}
+use Rattle.reader.specs.Stages.{sizeOf, actionFaults, ended, tested, testedList, spaceOf, afterProgram, afterStart, afterActions, afterHeader, answerAt, stages}
 use Rattle.reader.specs.declared.formula.View.{View}
 use Rattle.reader.proofs.FormatLaws.{field-got}
 use Rattle.reader.proofs.SheetLaws.{fieldsWith}
@@ -349,12 +349,20 @@ module _ (bytes : List ℕ) where
       go true j = rw j
       go false j = let z : 1 ≡ r = cc in ap refused z
 
--- A state of the set of n facts is below 2^n, and below 256.
-pub below-size : (n : ℕ) (s : ℕ) → member (setOf (λ t. ltb t (2 ^ n))) s ≡ true → (s < 2 ^ n) × (s < 256)
-below-size n s m = go (ltb s 256) refl
+-- A state of the set of n facts is below their size, which is at most 256.
+pub below-size : (n : ℕ) (s : ℕ) → member (setOf (λ t. ltb t (2 ^ n))) s ≡ true → s < sizeOf n
+unfolding sizeOf if_then_else_
+below-size n s m = go (ltb s 256) refl (ltb n 8)
   where
-    go : (b : Bool) → ltb s 256 ≡ b → (s < 2 ^ n) × (s < 256)
-    go true e =
-        let l = ltb-true s 256 e in
-        (ltb-true s (2 ^ n) (sym (member-setOf (λ t. ltb t (2 ^ n)) s l) ∙ m), l)
-    go false e = not-both m (member-above (setOf (λ t. ltb t (2 ^ n))) s (ltb-false s 256 e))
+    go : (b : Bool) → ltb s 256 ≡ b → (c : Bool) → s < (if c then 2 ^ n else 256)
+    go true e true = ltb-true s (2 ^ n) (sym (member-setOf (λ t. ltb t (2 ^ n)) s (ltb-true s 256 e)) ∙ m)
+    go true e false = ltb-true s 256 e
+    go false e c = not-both m (member-above (setOf (λ t. ltb t (2 ^ n))) s (ltb-false s 256 e))
+
+pub size-few : (n : ℕ) → sizeOf n ≤ 256
+unfolding sizeOf if_then_else_
+size-few n = go (ltb n 8) refl
+  where
+    go : (b : Bool) → ltb n 8 ≡ b → (if b then 2 ^ n else 256) ≤ 256
+    go true e = let few : n ≤ 8 = omega (arith, ltb-true n 8 e) in let h : 2 ^ n ≤ 2 ^ 8 = pow-mono few in h
+    go false e = omega arith

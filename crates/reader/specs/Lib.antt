@@ -3,6 +3,7 @@ pub mod Truth
 pub mod Bits
 pub mod Format
 pub mod Nodes
+pub mod Standing
 pub mod Answers
 pub mod NodeAnswers
 pub mod Tables

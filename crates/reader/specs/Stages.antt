@@ -43,6 +43,10 @@ unfoldable pub testedList : (space : List ℕ) (n k : ℕ) → Reader (Unit {0})
 testedList space n zero bytes p = got tt p
 testedList space n (suc k) bytes p = andThen (tested space (action n bytes p)) (λ u q. testedList space n k bytes q)
 
+-- 2^n, but at most 256.
+unfoldable pub sizeOf : ℕ → ℕ
+sizeOf n = if ltb n 8 then 2 ^ n else 256
+
 -- The states of n facts.
 abbrev pub spaceOf : ℕ → List ℕ
 spaceOf n = members (setOf (λ s. ltb s (2 ^ n)))

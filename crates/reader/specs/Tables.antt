@@ -12,12 +12,12 @@ use Rattle.reader.specs.declared.formula.View.{View}
 unfoldable pub fromOf : View → ℕ → ℕ
 fromOf View.States t = t
 fromOf (View.Next s) t = s
-fromOf (View.Before n) t = t
+fromOf (View.Before next) t = t
 
 unfoldable pub toOf : View → ℕ → ℕ
 toOf View.States t = t
 toOf (View.Next s) t = t
-toOf (View.Before n) t = n
+toOf (View.Before next) t = next
 
 -- The states of a view in which fact i is true; as a new fact, it is one of the next state.
 unfoldable pub factTable : (fresh : Bool) → View → (i : ℕ) → States

@@ -7,14 +7,15 @@ use crate::formula::Walked;
 use crate::formula::evaluate;
 use crate::formula::read_objective;
 use crate::limits::DEPTH;
+use crate::limits::REPLIES;
 use crate::refusal::Refusal;
 use states::States;
 ghost use mathlib.Core.Path.{_≡_};
-ghost use mathlib.Core.Bool.{true, false};
+ghost use mathlib.Core.Bool.{true, false, _&&_};
 ghost use Prim.Native.Nat.{ℕ, _≤_, _<_};
 ghost use lib.ListN.{length};
 ghost use Rattle.lists.specs.Lists.{every, exists};
-ghost use Rattle.states.specs.Sets.{member, members};
+ghost use Rattle.states.specs.Sets.{member, setOf, members};
 ghost use Rattle.reader.specs.Syntax.{Objective, change, probe};
 ghost use Rattle.reader.specs.Truth.{truth};
 ghost use Rattle.reader.specs.Format.{got, mapped, objective, objectives, action, actionList};
@@ -23,7 +24,7 @@ ghost use Rattle.reader.specs.declared.formula.View.{View};
 ghost use Rattle.reader.specs.Stages.{someHolds, probeReplies, tested, testedList};
 
 // m objective formulas: the states in which one of them holds, and where they end.
-pub(crate) fn evaluate_some(s: &[u8], at: usize, m: usize, n: usize) -> Evaluated
+fn evaluate_some(s: &[u8], at: usize, m: usize, n: usize) -> Evaluated
     requires { ⌜ length (now s) ≤ 1024 ⌝ }
     ensures { λ r. ⌜ setRead r ≡ mapped someHolds (objectives n m (now (s .entry)) at) ⌝ }
 {
@@ -54,7 +55,7 @@ fn evaluate_replies(s: &[u8], at: usize, n: usize) -> Evaluated
             if m < 1 {
                 return Evaluated::Refused(Refusal::Replies);
             }
-            if 8 < m {
+            if REPLIES < m {
                 return Evaluated::Refused(Refusal::Replies);
             }
             evaluate_some(s, next, m, n)
@@ -62,7 +63,7 @@ fn evaluate_replies(s: &[u8], at: usize, n: usize) -> Evaluated
     }
 }
 
-// An action over n facts, only where it ends.
+// An action over n facts, only where it ends. (A theory's end is the same whatever the state.)
 fn read_action(s: &[u8], at: usize, n: usize) -> Walked
     requires { ⌜ length (now s) ≤ 1024 ⌝ }
     ensures { λ r. ⌜ endRead r ≡ mapped ending (action n (now (s .entry)) at) ⌝ }
@@ -122,14 +123,25 @@ fn states_after(s: &[u8], at: usize, n: usize, state: u8) -> States
     }
 }
 
-// Whether the theory at `at` allows from each state of the space, all of them below `size`, a next state in the space.
-// Each state is tried against each next state. A next state that is found serves other states too, all told by one
-// evaluation; these needn't be tried.
-fn leads_on(s: &[u8], at: usize, n: usize, space: States, size: usize) -> bool
-    requires { ⌜ (length (now s) ≤ 1024) × (size ≤ 256) × ((t : ℕ) → member space t ≡ true → t < size) ⌝ }
-    ensures { λ r. ⌜ ((theory : Objective) (end : ℕ) → objective n true 16 (now (s .entry)) at ≡ got theory end → r ≡ every (λ s. exists (λ t. truth theory s t) (members space)) (members space)) ⌝ }
+// A set of states from which state 0 follows, so far as state 0 is in the space.
+fn served_at_first(before: States, space: States) -> States
+    ensures { λ r. ⌜ r ≡ setOf (λ x. member before x && member space 0) ⌝ }
 {
-    let mut served = States::empty();
+    if space.has(0) {
+        return before;
+    }
+    States::empty()
+}
+
+// Whether the theory at `at` allows from each state of the space, all of them below `size`, a next state in the space,
+// where the states in `first` are known to have one. Each other state is tried against each next state. As long as that
+// pays, a next state that is found tells by one evaluation which states it serves too; these needn't be tried.
+fn leads_on(s: &[u8], at: usize, n: usize, space: States, size: usize, first: States) -> bool
+    requires { ⌜ (length (now s) ≤ 1024) × (size ≤ 256) × ((t : ℕ) → member space t ≡ true → t < size) ⌝ }
+    ensures { λ r. ⌜ ((theory : Objective) (end : ℕ) → objective n true 16 (now (s .entry)) at ≡ got theory end → ((x : ℕ) → x < 256 → member first x ≡ true → exists (λ t. truth theory x t) (members space) ≡ true) → r ≡ every (λ x. exists (λ t. truth theory x t) (members space)) (members space)) ⌝ }
+{
+    let mut served = first;
+    let mut pays = true;
     'states: for old in 0..size {
         let state = (old % 256) as u8;
         if !space.has(state) {
@@ -142,7 +154,12 @@ fn leads_on(s: &[u8], at: usize, n: usize, space: States, size: usize) -> bool
         for new in 0..size {
             let next = (new % 256) as u8;
             if row.has(next) {
-                served = served.union(states_before(s, at, n, next));
+                if !pays {
+                    continue 'states;
+                }
+                let more = states_before(s, at, n, next);
+                served = served.union(more);
+                pays = !more.difference(States::one(state)).is_empty();
                 continue 'states;
             }
         }
@@ -151,15 +168,16 @@ fn leads_on(s: &[u8], at: usize, n: usize, space: States, size: usize) -> bool
     true
 }
 
-// The test behind 14 on the theory at `at`: where it ends, or the refusal.
+// The test behind 14 on the theory at `at`: where it ends, or the refusal. The evaluation that finds its end tells from
+// which states state 0 follows.
 fn test_change(s: &[u8], at: usize, n: usize, space: States, size: usize) -> Walked
     requires { ⌜ (length (now s) ≤ 1024) × (size ≤ 256) × ((t : ℕ) → member space t ≡ true → t < size) ⌝ }
     ensures { λ r. ⌜ endRead r ≡ tested (members space) (mapped change (objective n true 16 (now (s .entry)) at)) ⌝ }
 {
-    match read_objective(s, at, DEPTH, n, View::Next(0)) {
-        Walked::Refused(r) => Walked::Refused(r),
-        Walked::To(end) => {
-            if leads_on(s, at, n, space, size) {
+    match evaluate(s, at, DEPTH, n, View::Before(0)) {
+        Evaluated::Refused(r) => Walked::Refused(r),
+        Evaluated::Holds(before, end) => {
+            if leads_on(s, at, n, space, size, served_at_first(before, space)) {
                 return Walked::To(end);
             }
             Walked::Refused(Refusal::NoNext)

@@ -15,6 +15,8 @@ pub use limits::ACTIONS_AT;
 pub use limits::BRANCH_NODES;
 pub use limits::BYTES;
 pub use limits::DEPTH;
+pub use limits::FACTS;
+pub use limits::REPLIES;
 pub use nodes::ActionNode;
 pub use nodes::EpistemicNode;
 pub use nodes::HeaderRead;

@@ -1,7 +1,15 @@
 // The limits of a sheet (document 01, "The sheet").
 
+// The edition that is read.
+pub(crate) const EDITION: usize = 1;
+
 // The most bytes of a sheet.
 pub const BYTES: usize = 1024;
+
+// The most facts of a sheet, and the most replies of a probe.
+pub const FACTS: usize = 8;
+
+pub const REPLIES: usize = 8;
 
 // The deepest level of a formula.
 pub const DEPTH: usize = 16;

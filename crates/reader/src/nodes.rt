@@ -6,6 +6,9 @@ use crate::formula::View;
 use crate::formula::evaluate;
 use crate::limits::BYTES;
 use crate::limits::DEPTH;
+use crate::limits::EDITION;
+use crate::limits::FACTS;
+use crate::limits::REPLIES;
 use crate::refusal::Refusal;
 ghost use mathlib.Core.Path.{_≡_};
 ghost use Rattle.reader.specs.Nodes.{header as headerFields, actionHead, epistemicHead, programHead, ofSheet};
@@ -53,7 +56,7 @@ pub fn header(s: &[u8]) -> HeaderRead
     let Field::Value(edition, facts_at) = field_at(s, 0, 4) else {
         return HeaderRead::Refused(Refusal::Cut);
     };
-    if edition != 1 {
+    if edition != EDITION {
         return HeaderRead::Refused(Refusal::Edition);
     }
     let Field::Value(n, actions_at) = field_at(s, facts_at, 4) else {
@@ -62,7 +65,7 @@ pub fn header(s: &[u8]) -> HeaderRead
     if n < 1 {
         return HeaderRead::Refused(Refusal::Facts);
     }
-    if 8 < n {
+    if FACTS < n {
         return HeaderRead::Refused(Refusal::Facts);
     }
     let Field::Value(k, end) = field_at(s, actions_at, 5) else {
@@ -90,7 +93,7 @@ pub fn action_node(s: &[u8], at: usize) -> ActionNode
     if m < 1 {
         return ActionNode::Refused(Refusal::Replies);
     }
-    if 8 < m {
+    if REPLIES < m {
         return ActionNode::Refused(Refusal::Replies);
     }
     ActionNode::Probe(m, end)

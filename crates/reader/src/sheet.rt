@@ -18,14 +18,11 @@ use crate::program::read_program;
 use crate::refusal::Refusal;
 use states::States;
 ghost use mathlib.Core.Path.{_≡_};
-ghost use mathlib.Core.Bool.{true};
-ghost use Prim.Native.Nat.{ℕ, _^_, _≤_, _<_};
-ghost use lib.Dec.{ltb};
+ghost use Prim.Native.Nat.{_≤_};
 ghost use lib.ListN.{length};
-ghost use Rattle.states.specs.Sets.{member, setOf};
 ghost use Rattle.reader.specs.Format.{isPadding, reading};
 ghost use Rattle.reader.specs.Answers.{answerOf, withoutSheet, endRead};
-ghost use Rattle.reader.specs.Stages.{afterProgram, afterStart, afterActions, afterHeader};
+ghost use Rattle.reader.specs.Stages.{sizeOf, afterProgram, afterStart, afterActions, afterHeader};
 
 // The reader's answer.
 pub enum Answer {
@@ -48,9 +45,9 @@ fn is_padding(s: &[u8], at: usize) -> bool
     bits(s, at, end - at) == 0
 }
 
-// 2^n, for the numbers of facts that a sheet has: every state is below it.
+// 2^n, but at most 256: every state of n facts is below it.
 fn size_of(n: usize) -> usize
-    ensures { λ r. ⌜ (r ≤ 256) × ((s : ℕ) → member (setOf (λ t. ltb t (2 ^ n))) s ≡ true → s < r) ⌝ }
+    ensures { λ r. ⌜ r ≡ sizeOf n ⌝ }
 {
     if n < 8 {
         return 1 << n;

@@ -1,60 +1,86 @@
 //! The proved reader against the Rust reader.
+//!
+//! Each family of sheets is compared once, whichever tests ask for it.
+
+use std::collections::{BTreeMap, BTreeSet};
+use std::sync::LazyLock;
 
 use linked::read;
 use recovery::edges::edges;
 use recovery::encode::{encode, set_bit};
 use recovery::random::{damaged, good, Random, Size};
 
-fn expected(bytes: &[u8]) -> u8 {
-    recovery::read::read(bytes).map_or_else(|refusal| refusal.number(), |_| 0)
-}
+static GOOD: LazyLock<Comparison> = LazyLock::new(compare_good);
+static DAMAGED: LazyLock<Comparison> = LazyLock::new(compare_damaged);
+static FLIPPED_OR_CUT: LazyLock<Comparison> = LazyLock::new(compare_flipped_or_cut);
+static RANDOM: LazyLock<Comparison> = LazyLock::new(compare_random);
+static EDGES: LazyLock<Comparison> = LazyLock::new(compare_edges);
 
-/// Compares the two readers, and counts the sheets by their answer.
+/// The sheets on which the two readers were found to agree, with their answers.
 #[derive(Default)]
 struct Comparison {
-    counts: [usize; 16],
+    answers: BTreeMap<Vec<u8>, u8>,
 }
 
 impl Comparison {
-    fn add(&mut self, bytes: &[u8]) {
-        let number = expected(bytes);
-        assert_eq!(read(bytes), number, "sheet {bytes:02x?}");
-        self.counts[usize::from(number)] += 1;
+    fn add(&mut self, bytes: Vec<u8>) {
+        let number = recovery::read::read(&bytes).map_or_else(|refusal| refusal.number(), |_| 0);
+        assert_eq!(read(&bytes), number, "sheet {bytes:02x?}");
+        self.answers.insert(bytes, number);
     }
 
-    fn total(&self) -> usize {
-        self.counts.iter().sum()
+    /// How many different sheets had each answer.
+    fn counts(&self) -> [usize; 16] {
+        let mut counts = [0; 16];
+        for &number in self.answers.values() {
+            counts[usize::from(number)] += 1;
+        }
+        counts
+    }
+
+    /// Asserts that each of these answers was met.
+    fn assert_met(&self, numbers: impl IntoIterator<Item = usize>) {
+        let counts = self.counts();
+        for number in numbers {
+            assert!(
+                counts[number] > 0,
+                "no sheet has answer {number}: {counts:?}"
+            );
+        }
     }
 }
 
-#[test]
-fn good_sheets() {
+fn compare_good() -> Comparison {
     let mut compared = Comparison::default();
     let mut random = Random::new(3);
-    for _ in 0..3000 {
-        compared.add(&encode(&good(&mut random, &Size::SMALL)));
+    for (count, size) in [
+        (3000, Size::SMALL),
+        (2000, Size::MEDIUM),
+        (100, Size::LARGE),
+    ] {
+        for _ in 0..count {
+            compared.add(encode(&good(&mut random, &size)));
+        }
     }
-    for _ in 0..100 {
-        compared.add(&encode(&good(&mut random, &Size::LARGE)));
-    }
-    assert_eq!(compared.counts[0], 3100);
+    compared
 }
 
-#[test]
-fn damaged_sheets() {
+fn compare_damaged() -> Comparison {
     let mut compared = Comparison::default();
     let mut random = Random::new(4);
-    for _ in 0..14_000 {
-        compared.add(&damaged(&mut random, &Size::SMALL));
+    for (count, size) in [
+        (14_000, Size::SMALL),
+        (4000, Size::MEDIUM),
+        (100, Size::LARGE),
+    ] {
+        for _ in 0..count {
+            compared.add(damaged(&mut random, &size));
+        }
     }
-    for _ in 0..100 {
-        compared.add(&damaged(&mut random, &Size::LARGE));
-    }
-    assert_eq!(compared.total(), 14_100);
+    compared
 }
 
-#[test]
-fn flipped_bits_and_cut_sheets() {
+fn compare_flipped_or_cut() -> Comparison {
     let mut compared = Comparison::default();
     let mut random = Random::new(5);
     for _ in 0..30 {
@@ -63,17 +89,16 @@ fn flipped_bits_and_cut_sheets() {
             let mut flipped = bytes.clone();
             let bit = bytes[position / 8] >> (7 - position % 8) & 1 == 0;
             set_bit(&mut flipped, position, bit);
-            compared.add(&flipped);
+            compared.add(flipped);
         }
         for length in 0..bytes.len() {
-            compared.add(&bytes[..length]);
+            compared.add(bytes[..length].to_vec());
         }
     }
-    assert!(compared.total() > 3000, "{:?}", compared.counts);
+    compared
 }
 
-#[test]
-fn random_bytes() {
+fn compare_random() -> Comparison {
     let mut compared = Comparison::default();
     let mut random = Random::new(6);
     for _ in 0..6000 {
@@ -89,25 +114,63 @@ fn random_bytes() {
                 *second %= 32;
             }
         }
-        compared.add(&bytes);
+        compared.add(bytes);
     }
     for length in [1023, 1024, 1025, 1026, 4096, 1 << 20] {
-        compared.add(&vec![0; length]);
-        compared.add(&vec![0x11; length]);
-        compared.add(&vec![0xff; length]);
+        compared.add(vec![0; length]);
+        compared.add(vec![0x11; length]);
+        compared.add(vec![0xff; length]);
     }
-    assert_eq!(compared.total(), 6018);
+    compared
+}
+
+fn compare_edges() -> Comparison {
+    let mut compared = Comparison::default();
+    for bytes in edges() {
+        compared.add(bytes);
+    }
+    compared
+}
+
+#[test]
+fn good_sheets() {
+    let accepted = GOOD.answers.iter().filter(|(_, &number)| number == 0);
+    // The low half of the first byte is the number of facts.
+    let facts: BTreeSet<u8> = accepted.map(|(bytes, _)| bytes[0] % 16).collect();
+    assert!(
+        facts.iter().copied().eq(1..=8),
+        "numbers of facts {facts:?}"
+    );
+}
+
+#[test]
+fn damaged_sheets() {
+    DAMAGED.assert_met(0..=15);
+}
+
+#[test]
+fn flipped_bits_and_cut_sheets() {
+    // Cuts give 2, flips in the first byte 3 and 4; some flips leave a good sheet.
+    FLIPPED_OR_CUT.assert_met([0, 2, 3, 4]);
+}
+
+#[test]
+fn random_bytes() {
+    // Random bytes are mostly refused in the header or the actions.
+    RANDOM.assert_met(1..=7);
 }
 
 #[test]
 fn sheets_at_the_limits() {
-    let mut compared = Comparison::default();
-    for bytes in edges() {
-        compared.add(&bytes);
-    }
-    assert!(
-        compared.counts.iter().all(|&count| count > 0),
-        "every answer is met: {:?}",
-        compared.counts
-    );
+    EDGES.assert_met(0..=15);
+}
+
+#[test]
+fn at_least_20_000_different_sheets() {
+    let families = [&GOOD, &DAMAGED, &FLIPPED_OR_CUT, &RANDOM, &EDGES];
+    let sheets: BTreeSet<&[u8]> = families
+        .iter()
+        .flat_map(|family| family.answers.keys().map(Vec::as_slice))
+        .collect();
+    assert!(sheets.len() >= 20_000, "{} sheets", sheets.len());
 }

@@ -12,11 +12,11 @@ use recovery::sheet::{Action, Epistemic, Objective, Program, Sheet, MAX_BYTES};
 
 fn main() {
     println!(
-        "{:<52} {:>5} {:>6} {:>11} {:>11} {:>7}",
+        "{:<66} {:>5} {:>6} {:>11} {:>11} {:>7}",
         "sheet", "bytes", "answer", "proved ns", "Rust ns", "ratio"
     );
     for (name, bytes) in sheets() {
-        row(name, &bytes);
+        row(&name, &bytes);
     }
 }
 
@@ -33,7 +33,7 @@ fn row(name: &str, bytes: &[u8]) {
         }));
     }
     println!(
-        "{name:<52} {:>5} {answer:>6} {proved:>11.0} {plain:>11.0} {:>7.3}",
+        "{name:<66} {:>5} {answer:>6} {proved:>11.0} {plain:>11.0} {:>7.3}",
         bytes.len(),
         proved / plain
     );
@@ -52,88 +52,89 @@ fn time(mut call: impl FnMut() -> u64) -> f64 {
     start.elapsed().as_nanos() as f64 / f64::from(calls)
 }
 
-fn sheets() -> Vec<(&'static str, Vec<u8>)> {
+fn sheets() -> Vec<(String, Vec<u8>)> {
     let mut random = Random::new(8);
     let routines = (0..20).map(|_| encode(&good(&mut random, &Size::LARGE)));
-    let mut sheets = vec![
+    let mut sheets: Vec<(String, Vec<u8>)> = vec![
         (
-            "sample 1",
+            "sample 1".to_string(),
             vec![0x11, 0x0c, 0x90, 0x88, 0x1c, 0x40, 0x88, 0x20, 0x00],
         ),
         (
-            "the longest of 20 random routines of 8 facts",
+            "the longest of 20 random routines of 8 facts".to_string(),
             routines.max_by_key(Vec::len).unwrap(),
         ),
-        ("31 probes of 8 replies", probes()),
+        ("31 probes of 8 replies".to_string(), probes()),
         (
-            "31 changes: each fact stays",
-            changes(8, longest(|k| stays(8).and(trues(k)))),
+            "31 changes: each fact stays".to_string(),
+            changes(8, longest(8, |k| stays(8).and(trues(k)))),
         ),
         (
-            "31 changes: each fact stays, denied early",
-            changes(8, longest(|k| denied_early(trues(k)))),
+            "31 changes: each fact stays, denied early".to_string(),
+            changes(8, longest(8, |k| denied_early(8, trues(k)))),
         ),
         (
-            "31 changes: each fact is toggled",
-            changes(8, longest(|k| toggles(8).and(trues(k)))),
+            "31 changes: each fact is toggled".to_string(),
+            changes(8, longest(8, |k| toggles(8).and(trues(k)))),
         ),
         (
-            "31 changes: an equivalence of facts and new facts",
-            changes(8, longest(|k| parity(k.min(14)))),
+            "31 changes: an equivalence of facts and new facts".to_string(),
+            changes(8, longest(8, |k| parity(k.min(14)))),
         ),
         (
-            "31 changes: true, or a long formula",
-            changes(8, longest(|k| Objective::True.or(trues(k)))),
+            "31 changes: true, or a long formula".to_string(),
+            changes(8, longest(8, |k| Objective::True.or(trues(k)))),
         ),
         (
-            "31 changes: to the last state alone",
-            changes(8, longest(|k| trues(k).and(only_last()))),
+            "31 changes: to the last state alone".to_string(),
+            changes(8, longest(8, |k| trues(k).and(only_last()))),
         ),
     ];
-    for (facts, any, stay) in [
-        (
-            1,
-            "31 changes of 1 fact: any state",
-            "31 changes of 1 fact: each fact stays",
-        ),
-        (
-            3,
-            "31 changes of 3 facts: any state",
-            "31 changes of 3 facts: each fact stays",
-        ),
-        (
-            6,
-            "31 changes of 6 facts: any state",
-            "31 changes of 6 facts: each fact stays",
-        ),
-    ] {
+    for facts in [1, 2, 3, 4, 5, 6] {
+        let any = format!("{facts} facts, 31 changes: to any state");
         sheets.push((any, changes(facts, Objective::True)));
+        let stay = format!("{facts} facts, 31 changes: each fact stays");
         sheets.push((stay, changes(facts, stays(facts))));
+        let early = |k| denied_early(facts, Objective::True.or(trues(k)));
+        let long = longest(facts, early);
+        let name = format!("{facts} facts, 31 changes: each fact stays, a long part unneeded");
+        sheets.push((name, changes(facts, long.clone())));
+        let mut sheet = sheet_of_changes(facts, long);
+        let stuck = stays(facts).and(all((0..facts).map(Objective::Fact)).negate());
+        sheet.actions[30] = Action::Change(stuck);
+        let name = format!("{facts} facts: the same, refused in the last state of the last");
+        sheets.push((name, encode(&sheet)));
     }
     // Refused as late as can be: after the fields, or by the last state of the last action.
-    let long = longest(|k| stays(8).and(trues(k)));
+    let long = longest(8, |k| stays(8).and(trues(k)));
     let mut unpadded = changes(8, long.clone());
     let last = unpadded.len() - 1;
     assert_eq!(unpadded[last] & 1, 0);
     unpadded[last] |= 1;
-    sheets.push(("refused: a padding bit behind 31 changes", unpadded));
+    sheets.push((
+        "refused: a padding bit behind 31 changes".to_string(),
+        unpadded,
+    ));
     let mut sheet = sheet_of_changes(8, long.clone());
     sheet.start = Objective::False;
-    sheets.push(("refused: no start state behind 31 changes", encode(&sheet)));
+    sheets.push((
+        "refused: no start state behind 31 changes".to_string(),
+        encode(&sheet),
+    ));
     let mut sheet = sheet_of_changes(8, long);
     sheet.actions[30] = Action::Change(stays(8).and(all((0..8).map(Objective::Fact)).negate()));
     sheets.push((
-        "refused: the last of 31 changes, in its last state",
+        "refused: the last of 31 changes, in its last state".to_string(),
         encode(&sheet),
     ));
-    let mut sheet = sheet_of_changes(8, longest(|k| trues(k).and(only_last())));
+    let mut sheet = sheet_of_changes(8, longest(8, |k| trues(k).and(only_last())));
     sheet.actions[30] = Action::Change(Objective::False);
     sheets.push((
-        "refused: the last of 31 changes, in its first state",
+        "refused: the last of 31 changes, in its first state".to_string(),
         encode(&sheet),
     ));
     sheets.push((
-        "refused: longer than 1,024 bytes",
+        "refused: longer than 1,024 bytes".to_string(),
         vec![0x11; MAX_BYTES + 1],
     ));
     sheets
@@ -155,8 +156,8 @@ fn changes(facts: u8, theory: Objective) -> Vec<u8> {
 }
 
 /// The longest of a series of theories with which a sheet of 31 changes is accepted.
-fn longest(theory: impl Fn(u8) -> Objective) -> Objective {
-    let fits = |k: &u8| recovery::read::read(&changes(8, theory(*k))).is_ok();
+fn longest(facts: u8, theory: impl Fn(u8) -> Objective) -> Objective {
+    let fits = |k: &u8| recovery::read::read(&changes(facts, theory(*k))).is_ok();
     theory((2..60).take_while(fits).last().unwrap())
 }
 
@@ -173,8 +174,8 @@ fn all(parts: impl Iterator<Item = Objective>) -> Objective {
 }
 
 /// Each fact stays, where a wrong next state shows early, before the last part.
-fn denied_early(last: Objective) -> Objective {
-    (0..8).rev().fold(last, |rest, i| {
+fn denied_early(facts: u8, last: Objective) -> Objective {
+    (0..facts).rev().fold(last, |rest, i| {
         Objective::New(i).iff(Objective::Fact(i)).and(rest)
     })
 }

@@ -6,7 +6,7 @@ use denote.Ref.{now}
 use Rattle.reader.specs.Format.{mapped}
 use Rattle.reader.specs.Answers.{numberOf, fieldRead, setRead}
 use Rattle.reader.specs.Stages.{someHolds}
-use Rattle.reader.proofs.ActionLaws.{replies-cut, replies-few, replies-many, replies-counted}
+use Rattle.reader.proofs.TestLaws.{replies-cut, replies-few, replies-many, replies-counted}
 use Rattle.reader.proofs.actions.evaluate_replies.Statement.{statement}
 use Rattle.reader.proofs.actions.evaluate_replies.Tie as tie
 

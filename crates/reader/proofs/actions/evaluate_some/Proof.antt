@@ -8,7 +8,7 @@ use Rattle.states.specs.Sets.{member, setOf}
 use Rattle.reader.specs.Format.{mapped, objectives}
 use Rattle.reader.specs.Answers.{setRead, inTheory}
 use Rattle.reader.specs.Stages.{someHolds}
-use Rattle.reader.proofs.ActionLaws.{joinedTo, set-own, replies-start, replies-more, replies-refused, replies-end}
+use Rattle.reader.proofs.TestLaws.{joinedTo, set-own, replies-start, replies-more, replies-refused, replies-end}
 use Rattle.reader.proofs.actions.evaluate_some.Statement.{statement}
 use Rattle.reader.proofs.actions.evaluate_some.Tie as tie
 

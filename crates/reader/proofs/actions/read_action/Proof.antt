@@ -7,7 +7,7 @@ use Rattle.reader.specs.Syntax.{change, probe}
 use Rattle.reader.specs.Answers.{numberOf, fieldRead, endRead, setRead, inTheory, ending}
 use Rattle.reader.specs.Stages.{someHolds}
 use Rattle.reader.proofs.ReaderLaws.{ends-mapped}
-use Rattle.reader.proofs.ActionLaws.{also-ends, also-refused, action-cut, action-change, action-probe}
+use Rattle.reader.proofs.TestLaws.{also-ends, also-refused, action-cut, action-change, action-probe}
 use Rattle.reader.proofs.actions.read_action.Statement.{statement}
 use Rattle.reader.proofs.actions.read_action.Tie as tie
 

@@ -7,7 +7,7 @@ use borrow.Author.Needs.{needs}
 use denote.Ref.{now}
 use Rattle.reader.specs.Format.{mapped, actionList}
 use Rattle.reader.specs.Answers.{endRead, ending}
-use Rattle.reader.proofs.ActionLaws.{actions-more, actions-refused, actions-end}
+use Rattle.reader.proofs.TestLaws.{actions-more, actions-refused, actions-end}
 use Rattle.reader.proofs.actions.read_actions.Statement.{statement}
 use Rattle.reader.proofs.actions.read_actions.Tie as tie
 

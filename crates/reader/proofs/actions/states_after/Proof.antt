@@ -3,7 +3,7 @@ use mathlib.Core.Path.{sym, ap, _∙_}
 use borrow.Author.Needs.{needs}
 use Rattle.reader.specs.Answers.{setRead, inTheory, table}
 use Rattle.reader.specs.declared.formula.View.{View}
-use Rattle.reader.proofs.ActionLaws.{made-value, never-refused}
+use Rattle.reader.proofs.TestLaws.{made-value, never-refused}
 use Rattle.reader.proofs.actions.states_after.Statement.{statement}
 use Rattle.reader.proofs.actions.states_after.Tie as tie
 

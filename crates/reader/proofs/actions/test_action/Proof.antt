@@ -5,7 +5,7 @@ use denote.Ref.{now}
 use Rattle.states.specs.Sets.{members}
 use Rattle.reader.specs.Answers.{numberOf, fieldRead, endRead}
 use Rattle.reader.specs.Stages.{tested}
-use Rattle.reader.proofs.ActionLaws.{action-cut, action-change, action-probe, tested-fault}
+use Rattle.reader.proofs.TestLaws.{action-cut, action-change, action-probe, tested-fault}
 use Rattle.reader.proofs.actions.test_action.Statement.{statement}
 use Rattle.reader.proofs.actions.test_action.Tie as tie
 

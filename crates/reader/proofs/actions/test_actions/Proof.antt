@@ -8,7 +8,7 @@ use denote.Ref.{now}
 use Rattle.states.specs.Sets.{members}
 use Rattle.reader.specs.Answers.{endRead}
 use Rattle.reader.specs.Stages.{testedList}
-use Rattle.reader.proofs.ActionLaws.{tests-more, tests-refused, tests-end}
+use Rattle.reader.proofs.TestLaws.{tests-more, tests-refused, tests-end}
 use Rattle.reader.proofs.actions.test_actions.Statement.{statement}
 use Rattle.reader.proofs.actions.test_actions.Tie as tie
 

@@ -5,7 +5,7 @@ use Rattle.states.specs.Sets.{members}
 use Rattle.reader.specs.Syntax.{probe}
 use Rattle.reader.specs.Answers.{numberOf, setRead, endRead}
 use Rattle.reader.specs.Stages.{someHolds}
-use Rattle.reader.proofs.ActionLaws.{probe-passes, probe-fails, tested-refused}
+use Rattle.reader.proofs.TestLaws.{probe-passes, probe-fails, tested-refused}
 use Rattle.reader.proofs.actions.test_probe.Statement.{statement}
 use Rattle.reader.proofs.actions.test_probe.Tie as tie
 

@@ -9,7 +9,7 @@ use Rattle.states.specs.declared.States.{States}
 use Rattle.states.specs.Sets.{member, setOf, members}
 use Rattle.reader.specs.Answers.{numberOf, endRead}
 use Rattle.reader.specs.Stages.{testedList}
-use Rattle.reader.proofs.StageLaws.{some-below, program-unpadded, program-startless, program-tested}
+use Rattle.reader.proofs.StageLaws.{size-few, below-size, some-below, program-unpadded, program-startless, program-tested}
 use borrow.Author.Needs.{needs}
 use Rattle.reader.proofs.sheet.after_program.Statement.{statement}
 use Rattle.reader.proofs.sheet.after_program.Tie as tie
@@ -49,7 +49,11 @@ size-of-requires c κs = search needs
 
 test-actions-requires : tie.Need-test-actions-requires
 test-actions-requires c κs =
-    (search needs, c .size-of .ensures .0, λ t m. c .size-of .ensures .1 t (ap (λ (x : States). member x t) (sym (c .before .before .before .before .all .ensures)) ∙ m))
+    let a = c .before .before .before .before .before .before .before .before .args in (
+      search needs,
+      rw (c .size-of .ensures) (size-few (a .n)),
+      λ t m. rw (c .size-of .ensures) (below-size (a .n) t (ap (λ (x : States). member x t) (sym (c .before .before .before .before .all .ensures)) ∙ m)),
+    )
 
 returns-3 : tie.Need-returns-3
 returns-3 c =

@@ -2,7 +2,9 @@
 use Prim.Native.Nat.{_^_, _≤_}
 use native.Mathlib.Omega.{arith}
 use lib.Pow.{pow-mono}
-use Rattle.reader.proofs.StageLaws.{below-size}
+use borrow.Author.Tests.{lt-ltb, le-ltb}
+use Rattle.lists.specs.Lists.{if_then_else_}
+use Rattle.reader.specs.Stages.{sizeOf}
 use borrow.Author.Needs.{needs}
 use Rattle.reader.proofs.sheet.size_of.Statement.{statement}
 use Rattle.reader.proofs.sheet.size_of.Tie as tie
@@ -11,14 +13,16 @@ shl-result : tie.Need-shl-result
 shl-result c = search needs
 
 returns : tie.Need-returns
+unfolding sizeOf if_then_else_
 returns c =
     let n = c .before .args .n in
     let few : n ≤ 8 = omega arith in
     let p : 2 ^ n ≤ 2 ^ 8 = pow-mono few in
-    (omega arith, λ s m. omega (arith, below-size n s m .0))
+    rw (lt-ltb n 8 (c .if1 .taken)) (omega arith)
 
 returns-2 : tie.Need-returns-2
-returns-2 c = (omega arith, λ s m. below-size (c .before .args .n) s m .1)
+unfolding sizeOf if_then_else_
+returns-2 c = rw (le-ltb (c .before .args .n) 8 (c .if1 .left))
 
 pub size-of-spec : {M : Type 1} → statement M
 size-of-spec = tie.close (tie.spec shl-result returns returns-2)

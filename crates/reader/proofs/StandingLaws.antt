@@ -1,5 +1,4 @@
--- Where the parts of an accepted sheet stand, by the sheet's data: a caller that walks through its bytes by specs/Nodes.antt and the formula readers
--- opens no reader. Assumes nothing.
+-- The parts of an accepted sheet stand where specs/Standing.antt says, and stay inside the bytes. Assumes nothing.
 use Prim.Native.Nat.{ℕ, zero, suc, _+_, _-_, _*_, _≤_, _<_}
 use mathlib.Core.Path.{_≡_, refl, sym, ap}
 use mathlib.Core.List.{List, [], _∷_}
@@ -11,65 +10,14 @@ use borrow.Author.Tests.{ltb-true}
 use Rattle.lists.proofs.ListLaws.{both-true}
 use Rattle.reader.specs.Syntax.{Objective, Epistemic, known, not-known, all-of, any-of, Program, end, act, branch, Action, change, probe, Sheet}
 use Rattle.reader.specs.Format.{accepted, got, mapped, Reader, field, deepest, objective, epistemicBehind, epistemic, objectives, actionBehind, action, actionList, ProgramRead, programBehind, programWithin, isEdition, sheetFields, isPadding, reading}
-use Rattle.reader.specs.Nodes.{change-head, probe-head, known-head, not-known-head, all-of-head, any-of-head, end-head, act-head, branch-head, header, actionHead, epistemicHead, programHead, ofSheet}
+use Rattle.reader.specs.Nodes.{change-head, probe-head, end-head, act-head, branch-head, actionHead, programHead, ofSheet}
 use Rattle.reader.specs.Answers.{inTheory, table}
 use Rattle.reader.specs.declared.formula.View.{View}
+use Rattle.reader.specs.Standing.{ObjectiveAt, RepliesAt, ActionAt, ActionsAt, EpistemicAt, ProgramAt, Standing}
 use Rattle.reader.proofs.FormatLaws.{Finds, finds-give, finds-refuse, finds-if, finds-check, finds-behind, finds-field}
 use Rattle.reader.proofs.FormulaLaws.{objective-levels, objective-onward}
 use Rattle.reader.proofs.NodeLaws.{sheet-short, header-got, change-first, probe-first, known-first, not-known-first, all-of-first, any-of-first, end-first, act-first, branch-first}
 use Rattle.reader.proofs.SheetLaws.{objectives-long, list-few, fieldsWith, accepted-how, accepted-padding}
-
--- Where the parts of a branch stand behind its tag, from p to q: its condition, which C says is read and F that it stands, its then-program, its else-program and
--- its rest, one after the other.
-pub record BranchAt (C F Y Z R : ℕ → ℕ → Type 0) (p q : ℕ) : Type 0 where
-  pub then-at : ℕ
-  pub else-at : ℕ
-  pub rest-at : ℕ
-  pub condition-read : C p then-at
-  pub condition-stands : F p then-at
-  pub then-stands : Y then-at else-at
-  pub else-stands : Z else-at rest-at
-  pub rest-stands : R rest-at q
-
-module _ (bytes : List ℕ) (n : ℕ) where
-  -- An objective formula over n facts stands from p to q.
-  abbrev pub ObjectiveAt : (theory : Bool) → Objective → (p q : ℕ) → Type 0
-  ObjectiveAt theory f p q = objective n theory deepest bytes p ≡ got f q
-
-  -- Replies stand from p to q, one after the other.
-  unfoldable pub RepliesAt : List Objective → (p q : ℕ) → Type 0
-  RepliesAt [] p q = p ≡ q
-  RepliesAt (f ∷ fs) p q = (r : ℕ) × ObjectiveAt false f p r × RepliesAt fs r q
-
-  -- An action stands from p to q.
-  unfoldable pub ActionAt : Action → (p q : ℕ) → Type 0
-  unfolding RepliesAt
-  ActionAt (change f) p q = (actionHead bytes p ≡ got change-head (p + 1)) × ObjectiveAt true f (p + 1) q
-  ActionAt (probe fs) p q = (actionHead bytes p ≡ got (probe-head (length fs)) (p + 5)) × RepliesAt fs (p + 5) q
-
-  -- Actions stand from p to q, one after the other.
-  unfoldable pub ActionsAt : List Action → (p q : ℕ) → Type 0
-  unfolding ActionAt
-  ActionsAt [] p q = p ≡ q
-  ActionsAt (a ∷ rest) p q = (r : ℕ) × ActionAt a p r × ActionsAt rest r q
-
-  -- An epistemic formula stands from p to q.
-  unfoldable pub EpistemicAt : Epistemic → (p q : ℕ) → Type 0
-  EpistemicAt (known f) p q = (epistemicHead bytes p ≡ got known-head (p + 2)) × ObjectiveAt false f (p + 2) q
-  EpistemicAt (not-known f) p q = (epistemicHead bytes p ≡ got not-known-head (p + 2)) × ObjectiveAt false f (p + 2) q
-  EpistemicAt (all-of f g) p q = (epistemicHead bytes p ≡ got all-of-head (p + 2)) × (r : ℕ) × EpistemicAt f (p + 2) r × EpistemicAt g r q
-  EpistemicAt (any-of f g) p q = (epistemicHead bytes p ≡ got any-of-head (p + 2)) × (r : ℕ) × EpistemicAt f (p + 2) r × EpistemicAt g r q
-
-  -- An epistemic formula is read from p to q.
-  abbrev pub EpistemicRead : Epistemic → (p q : ℕ) → Type 0
-  EpistemicRead f p q = epistemic n deepest bytes p ≡ got f q
-
-  -- A program stands from p to q.
-  unfoldable pub ProgramAt : Program → (p q : ℕ) → Type 0
-  unfolding EpistemicAt
-  ProgramAt end p q = (programHead bytes p ≡ got end-head (p + 2)) × (p + 2 ≡ q)
-  ProgramAt (act a rest) p q = (programHead bytes p ≡ got (act-head a) (p + 7)) × ProgramAt rest (p + 7) q
-  ProgramAt (branch f y z rest) p q = (programHead bytes p ≡ got branch-head (p + 2)) × BranchAt (EpistemicRead f) (EpistemicAt f) (ProgramAt y) (ProgramAt z) (ProgramAt rest) (p + 2) q
 
 module _ (bytes : List ℕ) (n : ℕ) where
   -- Replies that are read stand there.
@@ -254,24 +202,6 @@ module _ (bytes : List ℕ) (n : ℕ) where
       let c = program-inside z (parts .else-at) (parts .rest-at) (parts .else-stands) in
       let d = program-inside rest (parts .rest-at) q (parts .rest-stands) in
       (omega arith, d .1)
-
--- Where the parts of a sheet stand: behind its header the actions, the start formula, the goal and the program, one after the other, and fewer than 8 bits behind
--- these the end of the bytes.
-pub record Standing (bytes : List ℕ) (sheet : Sheet) : Type 0 where
-  pub short : length bytes ≤ 1024
-  pub header-read : header bytes 0 ≡ got (record { facts = sheet .facts; actions = length (sheet .actions) }) 13
-  pub start-at : ℕ
-  pub goal-at : ℕ
-  pub program-at : ℕ
-  pub end-at : ℕ
-  pub actions-stand : ActionsAt bytes (sheet .facts) (sheet .actions) 13 start-at
-  pub start-stands : ObjectiveAt bytes (sheet .facts) false (sheet .start) start-at goal-at
-  pub goal-read : EpistemicRead bytes (sheet .facts) (sheet .goal) goal-at program-at
-  pub goal-stands : EpistemicAt bytes (sheet .facts) (sheet .goal) goal-at program-at
-  pub program-stands : ProgramAt bytes (sheet .facts) (sheet .program) program-at end-at
-  pub inside : end-at ≤ 8 * length bytes
-  pub spare : 8 * length bytes < end-at + 8
-  pub padded : isPadding bytes end-at ≡ true
 
 -- The fields of a sheet, where the program is read by any reader whose programs stand where they are read.
 module _ (bytes : List ℕ) (short : length bytes ≤ 1024) (programOf : (n k : ℕ) → Reader ProgramRead) where

@@ -356,12 +356,18 @@ module _ (theory : Objective) (space : States) where
   tried-more {old} h now s less m =
       ⊎-elim (λ (e : s ≡ old). ap (leads theory (members space)) e ∙ now (ap (member space) (sym e) ∙ m)) (λ l. h .tried s l m) (eq-or-lt-of-le (omega arith))
 
-  -- At first none is tried and none is served.
-  pub served-none : {served : States} → served ≡ setOf (λ s. false) → Served 0 served
-  served-none e = record {
-    tried = λ s l m. absurd (omega arith);
-    known = λ s l m. not-both m (ap (λ (x : States). member x s) e ∙ member-setOf (λ s. false) s l);
-  }
+  -- At first none is tried, and those are served that are known to be.
+  pub served-first : {first : States} → ((s : ℕ) → s < 256 → member first s ≡ true → leads theory (members space) s ≡ true) → Served 0 first
+  served-first h = record { tried = λ s l m. absurd (omega arith); known = h }
+
+  -- The states from which state 0 follows are known to be, where state 0 is in the space.
+  pub first-known : {before first : States} → before ≡ table (View.Before 0) theory → first ≡ setOf (λ x. member before x && member space 0)
+      → (s : ℕ) → s < 256 → member first s ≡ true → leads theory (members space) s ≡ true
+  unfolding table
+  first-known {before} b f s l m =
+      let both = both-true (member before s) (member space 0) (sym (ap (λ (x : States). member x s) f ∙ member-setOf (λ x. member before x && member space 0) s l) ∙ m) in
+      mem-exists (λ t. truth theory s t) (members space) (mem-members space 0 (omega arith) (both .1))
+      (sym (ap (λ (x : States). member x s) b ∙ member-setOf (λ x. truth theory x 0) s l) ∙ both .0)
 
   -- A state outside the space needs no try.
   pub served-outside : {old : ℕ} {served : States} → Served old served → member space old ≡ false → Served (old + 1) served
@@ -378,6 +384,14 @@ module _ (theory : Objective) (space : States) where
   row-leads old new after row a e l =
       ap (λ (x : States). member x new) e ∙ member-setOf (λ t. member after t && member space t) new l
       ∙ ap (λ (b : Bool). b && member space new) (ap (λ (x : States). member x new) a ∙ member-setOf (λ t. truth theory old t) new l)
+
+  -- A next state is found.
+  pub served-alone : {old new : ℕ} {served after row : States} → Served old served → new < 256
+      → after ≡ table (View.Next old) theory → row ≡ setOf (λ t. member after t && member space t) → member row new ≡ true → Served (old + 1) served
+  served-alone {old} {new} {served} {after} {row} h l a e m =
+      let both = both-true (truth theory old new) (member space new) (sym (row-leads old new after row a e l) ∙ m) in
+      let here : List·Memᴰ new (members space) = mem-members space new l (both .1) in
+      record { tried = tried-more h (λ i. mem-exists (λ t. truth theory old t) (members space) here (both .0)); known = h .known }
 
   -- A next state is found: the states that it serves are served.
   pub served-found : {old new : ℕ} {served after row before joined : States} → Served old served → new < 256
