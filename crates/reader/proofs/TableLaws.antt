@@ -152,7 +152,7 @@ pub table-true : (view : View) (f : Objective) → table view f ≡ trueAt (from
 unfolding table fromOf toOf
 table-true View.States f = refl
 table-true (View.Next s) f = refl
-table-true (View.Before n) f = refl
+table-true (View.Before next) f = refl
 
 -- So are the sets that are read.
 pub tables-true : (view : View) (x : Read Objective) → mapped (table view) x ≡ mapped (trueAt (fromOf view) (toOf view)) x

@@ -402,7 +402,7 @@ module _ (theory : Objective) (space : States) where
       let both = both-true (truth theory old new) (member space new) (sym (row-leads old new after row a e l) ∙ m) in
       let here : List·Memᴰ new (members space) = mem-members space new l (both .1) in
       record {
-        tried = tried-more h (λ i. mem-exists (λ t. truth theory old t) (members space) here (both .0));
+        tried = served-alone h l a e m .tried;
         known = λ s less i.
             ⊎-elim (λ k. h .known s less k)
             (λ k. mem-exists (λ t. truth theory s t) (members space) here (sym (ap (λ (x : States). member x s) b ∙ member-setOf (λ s. truth theory s new) s less) ∙ k))

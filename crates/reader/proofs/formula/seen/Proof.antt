@@ -12,7 +12,7 @@ use Rattle.reader.proofs.formula.seen.Statement.{statement}
 use Rattle.reader.proofs.formula.seen.Tie as tie
 
 -- Outside a theory a fact is the same as a new one.
-either-way : (isNew : Bool) (i : ℕ) → factTable isNew View.States i ≡ setOf (λ t. factIn t i)
+either-way : (fresh : Bool) (i : ℕ) → factTable fresh View.States i ≡ setOf (λ t. factIn t i)
 unfolding factTable fromOf toOf if_then_else_
 either-way true i = refl
 either-way false i = refl
