@@ -6,6 +6,7 @@ use native.Mathlib.Nat.{pow-suc, mod-eq-of-lt}
 use native.Mathlib.Omega.{arith}
 use lib.Pow.{pow-lt, shr-shr}
 use lib.Dec.{eqb, eqb·zero-suc, eqb·suc-zero, eqb·suc-suc}
+use lib.Count.{trailingZeros}
 use lib.Bits.{bitAnd, bitOr, bitXor, and-shr, and-mod, or-shr, or-mod, xor-shr, xor-mod, or-add-and, and-le-l, and-le-r}
 use Rattle.lists.specs.Lists.{if_then_else_}
 use Rattle.states.specs.Sets.{bit, wordOf}
@@ -168,3 +169,57 @@ word-bit (suc w) test (suc k) h =
     let b : num (test 0) < 2 = num-lt (test 0) in
     let e : (num (test 0) + wordOf w (λ k. test (suc k)) * 2) / 2 ≡ wordOf w (λ k. test (suc k)) = omega arith in
     bit-suc (num (test 0) + wordOf w (λ k. test (suc k)) * 2) k ∙ ap (λ (x : ℕ). bit x k) e ∙ word-bit w (λ k. test (suc k)) k (omega arith)
+
+-- The zeros below the lowest set bit: none of an odd word, of an even one those of the half and one more.
+trailing-odd : (w x : ℕ) → x % 2 ≡ 1 → trailingZeros (suc w) x ≡ 0
+unfolding trailingZeros
+trailing-odd w x e = rw e
+
+trailing-even : (w x : ℕ) → x % 2 ≡ 0 → trailingZeros (suc w) x ≡ suc (trailingZeros w (x / 2))
+unfolding trailingZeros
+trailing-even w x e = rw e
+
+-- A word other than 0, of w bits, has a lowest set bit: so many zeros are below it.
+pub lowest-set : (w x : ℕ) → (x ≡ 0 → ⊥) → x < 2 ^ w → (trailingZeros w x < w) × (bit x (trailingZeros w x) ≡ true)
+lowest-set zero x n h = absurd (n (omega arith))
+lowest-set (suc w) x n h = go (x % 2) refl (λ m. lowest-set w (x / 2) m (omega (arith, pow-suc 2 w)))
+  where
+    go : (d : ℕ) → x % 2 ≡ d → ((x / 2 ≡ 0 → ⊥) → (trailingZeros w (x / 2) < w) × (bit (x / 2) (trailingZeros w (x / 2)) ≡ true))
+        → (trailingZeros (suc w) x < suc w) × (bit x (trailingZeros (suc w) x) ≡ true)
+    go zero e half =
+        let r = half (λ z. n (omega arith)) in
+        rw (trailing-even w x e) (omega arith, bit-suc x (trailingZeros w (x / 2)) ∙ r .1)
+    go (suc zero) e half = rw (trailing-odd w x e) (omega arith, bit-zero x ∙ ap (λ (d : ℕ). eqb d 1) e)
+    go (suc (suc d)) e half = absurd (omega arith)
+
+-- A test joined with itself.
+and-same : (b : Bool) → (b && b) ≡ (b && true)
+and-same true = refl
+and-same false = refl
+
+-- One less clears it, and keeps the bits above it.
+below-lowest : (w x k : ℕ) → (x ≡ 0 → ⊥) → x < 2 ^ w → (bit x k && bit (x - 1) k) ≡ (bit x k && not (eqb k (trailingZeros w x)))
+below-lowest zero x k n h = absurd (n (omega arith))
+below-lowest (suc w) x k n h = go (x % 2) refl k (λ j m. below-lowest w (x / 2) j m (omega (arith, pow-suc 2 w)))
+  where
+    go : (d : ℕ) → x % 2 ≡ d → (k : ℕ)
+        → ((j : ℕ) → (x / 2 ≡ 0 → ⊥) → (bit (x / 2) j && bit (x / 2 - 1) j) ≡ (bit (x / 2) j && not (eqb j (trailingZeros w (x / 2)))))
+        → (bit x k && bit (x - 1) k) ≡ (bit x k && not (eqb k (trailingZeros (suc w) x)))
+    go zero e zero half = rw (bit-zero x, e)
+    go zero e (suc k) half =
+        let u : (x - 1) / 2 ≡ x / 2 - 1 = omega arith in
+        rw (bit-suc x k, bit-suc (x - 1) k, u, trailing-even w x e, eqb·suc-suc) (half k (λ z. n (omega arith)))
+    go (suc zero) e zero half =
+        let u : (x - 1) % 2 ≡ 0 = omega arith in
+        rw (bit-zero x, bit-zero (x - 1), e, u, trailing-odd w x e)
+    go (suc zero) e (suc k) half =
+        let u : (x - 1) / 2 ≡ x / 2 = omega arith in
+        rw (bit-suc x k, bit-suc (x - 1) k, u, trailing-odd w x e, eqb·suc-zero) (and-same (bit (x / 2) k))
+    go (suc (suc d)) e k half = absurd (omega arith)
+
+-- `x & (x - 1)` is x without its lowest set bit, and so less than x.
+pub bit-cleared : (x k : ℕ) → (x ≡ 0 → ⊥) → x < 2 ^ 64 → bit (bitAnd x (x - 1)) k ≡ (bit x k && not (eqb k (trailingZeros 64 x)))
+bit-cleared x k n h = bit-and x (x - 1) k ∙ below-lowest 64 x k n h
+
+pub cleared-less : (x : ℕ) → (x ≡ 0 → ⊥) → bitAnd x (x - 1) < x
+cleared-less x n = omega (arith, and-le-r x (x - 1))

@@ -1,0 +1,221 @@
+-- The machine filled from an accepted sheet behaves as the sheet: after each history that follows the routine it stands where what is left of the routine stands,
+-- with the states possible after the history.
+use Prim.Native.Nat.{ℕ, zero, suc, _+_, _-_, _<_, _≤_}
+use mathlib.Core.Path.{_≡_, refl, ap, sym, subst, _∙_}
+use mathlib.Core.List.{List, [], _∷_, _++_, map-append, List·Memᴰ}
+use mathlib.Core.Logic.{_⊎_, inl, inr}
+use mathlib.Core.Bool.{Bool, true, false}
+use native.Mathlib.Omega.{arith}
+use lib.ListN.{length, getD, length-append}
+use Rattle.lists.specs.Lists.{every, nonempty}
+use Rattle.states.specs.declared.States.{States}
+use Rattle.states.specs.Sets.{member, setOf, members}
+use Rattle.states.proofs.SetLaws.{members-mem, mem-members}
+use Rattle.reader.specs.Syntax.{Epistemic, Program, end, act, branch, Sheet}
+use Rattle.reader.specs.Truth.{isState}
+use Rattle.reader.specs.Format.{accepted, reading}
+use Rattle.reader.proofs.SheetLaws.{accepted-shape}
+use Rattle.semantics.specs.Runs.{Entry, entry, History, extended, replies, IsRun, lastState, holdsAfter, occurs}
+use Rattle.semantics.specs.Routine.{Policy, done, perform, policy, routine, Follows}
+use Rattle.semantics.specs.Replies.{leftAfter}
+use Rattle.semantics.specs.Progression.{possible, satisfies, startSet, nextSet, setAfter}
+use Rattle.semantics.proofs.ProgressionLaws.{possible-run, run-possible, holds-possible, occurs-possible, set-states}
+use Rattle.semantics.proofs.AcceptedLaws.{actions-most}
+use Rattle.semantics.proofs.ReplyLaws.{next-follows}
+use Rattle.routine.specs.declared.memory.Node.{Node}
+use Rattle.routine.specs.Memory.{nodeMost, setAt, nodeAt}
+use Rattle.routine.specs.Tables.{sheetStart, sheetNodes, sheetSets, sheetActionSets, programNodes, programSets, programAtoms, atomSets, tests, size}
+use Rattle.routine.proofs.SizeLaws.{nodes-length, program-sets-length}
+use Rattle.routine.proofs.RoomLaws.{accepted-room, sheet-nodes-length}
+use Rattle.routine.proofs.TableLaws.{noStates, Tabled}
+use Rattle.progression.specs.declared.place.Place.{Place}
+use Rattle.progression.specs.Machine.{knownBy, atNode, settledFrom, settled, stepped}
+use Rattle.progression.proofs.MachineLaws.{run, run-on, settled-run, settled-forward}
+use Rattle.progression.proofs.PolicyLaws.{policies, allLeft, all-policy, all-begun, all-same, Begun}
+use Rattle.progression.proofs.PlaceLaws.{NodesAt, SetsAt, nodes-left, nodes-right, row-left, row-right, Settles, ProgramsAt, programs-settle, action-settles, goal-settles}
+use Rattle.progression.proofs.StepLaws.{tabled-step, members-possible}
+
+-- The set of possible states with one entry more.
+after-more : (sheet : Sheet) (set : ℕ → Bool) (h : History) (e : Entry) → setAfter sheet set (h ++ (e ∷ [])) ≡ nextSet sheet (setAfter sheet set h) e
+unfolding setAfter
+after-more sheet set [] e = refl
+after-more sheet set (d ∷ h) e = after-more sheet (nextSet sheet set d) h e
+
+-- The empty history follows every policy.
+none-follows : (p : Policy) → Follows p []
+unfolding Follows
+none-follows done = tt
+none-follows (perform a after) = tt
+
+-- What is left of a policy after one reply more.
+left-more : (p : Policy) (rs : List ℕ) (r a : ℕ) (after : ℕ → Policy) → leftAfter p rs ≡ perform a after → leftAfter p (rs ++ (r ∷ [])) ≡ after r
+unfolding leftAfter
+left-more p [] r a after e = ap (λ (q : Policy). leftAfter q (r ∷ [])) e
+left-more done (s ∷ rs) r a after e = let z : _≡_ {A = ℕ} 0 1 = cc in absurd (omega arith)
+left-more (perform b on) (s ∷ rs) r a after e = left-more (on s) rs r a after e
+
+module _ (sheet : Sheet) (heads nodes sets : List ℕ) where
+  -- The programs ps stand from node i on, in the memory of the sheet's tables.
+  abbrev pub StandsAt : (i : ℕ) → List Program → Type 0
+  StandsAt = ProgramsAt (nodeAt nodes) (setAt sets) (size (sheet .program)) (length (sheet .actions))
+
+  -- The machine has come to node i with a set of states by a history: the history follows the routine, what is left of the routine stands from node i on, and the
+  -- states of the set are those possible after the history.
+  pub record Reached (h : History) (i : ℕ) (set : States) : Type 0 where
+    pub follows : Follows (routine sheet) h
+    pub left : List Program
+    pub stands : StandsAt i left
+    pub policy-left : leftAfter (routine sheet) (replies h) ≡ policies sheet left h
+    pub set-is : set ≡ setOf (setAfter sheet (startSet sheet) h)
+
+  -- Where the machine settles then: at an action, which is the routine's next, and behind each of its replies the machine has come to the next node with the set of
+  -- the step; or at the end, where nothing is left, with whether the goal holds.
+  pub record AtAction (h : History) (i : ℕ) (set : States) : Type 0 where
+    pub place : ℕ
+    pub action : ℕ
+    pub settles : settled nodes sets set i ≡ Place.Act place action
+    pub forward : i ≤ place
+    pub known-action : action < length (sheet .actions)
+    pub after : ℕ → Policy
+    pub next : leftAfter (routine sheet) (replies h) ≡ perform action after
+    pub onward : (r : ℕ) → Reached (extended h action r) (place + 1) (stepped heads sets set action r)
+
+  pub record AtEnd (h : History) (i : ℕ) (set : States) : Type 0 where
+    pub settles : settled nodes sets set i ≡ Place.End (holdsAfter sheet h (sheet .goal))
+    pub nothing : leftAfter (routine sheet) (replies h) ≡ done
+
+  module _ (bytes : List ℕ) (read : reading bytes ≡ accepted sheet) (tabled : Tabled sheet heads nodes sets) where
+    few : sheet .facts ≤ 8
+    few = accepted-shape bytes sheet read .facts-most
+
+    abbrev goal-at : ℕ
+    goal-at = size (sheet .program)
+
+    abbrev first-set : ℕ
+    first-set = length (sheetActionSets sheet)
+
+    abbrev goalNodes : List Node
+    goalNodes = tests (sheet .goal) (first-set + programAtoms (sheet .program)) 0 1 ++ (Node.End true ∷ Node.End false ∷ [])
+
+    -- The nodes and the sets of the sheet stand in the memory.
+    all-nodes : NodesAt (nodeAt nodes) (setAt sets) goal-at (length (sheet .actions)) 0 (programNodes (sheet .program) first-set ++ goalNodes)
+    unfolding sheetNodes
+    all-nodes = (
+      λ j l. let e : 0 + j ≡ j = omega arith in ap (nodeAt nodes) e ∙ tabled .node-is j l,
+      omega (arith, sheet-nodes-length sheet, accepted-room bytes sheet read .nodes-room),
+    )
+
+    all-sets : SetsAt (nodeAt nodes) (setAt sets) goal-at (length (sheet .actions)) 0 (sheetActionSets sheet ++ (programSets (sheet .program) ++ atomSets (sheet .goal)))
+    unfolding sheetSets
+    all-sets j l = let e : 0 + j ≡ j = omega arith in ap (setAt sets) e ∙ tabled .set-is j l
+
+    condition-sets : SetsAt (nodeAt nodes) (setAt sets) goal-at (length (sheet .actions)) first-set (programSets (sheet .program) ++ atomSets (sheet .goal))
+    condition-sets = row-right (setAt sets) noStates 0 (sheetActionSets sheet) (programSets (sheet .program) ++ atomSets (sheet .goal)) first-set (omega arith) all-sets
+
+    goal-sets : SetsAt (nodeAt nodes) (setAt sets) goal-at (length (sheet .actions)) (first-set + programAtoms (sheet .program)) (atomSets (sheet .goal))
+    goal-sets = row-right (setAt sets) noStates first-set (programSets (sheet .program)) (atomSets (sheet .goal)) (first-set + programAtoms (sheet .program))
+        (omega (arith, program-sets-length (sheet .program))) condition-sets
+
+    goal-nodes : NodesAt (nodeAt nodes) (setAt sets) goal-at (length (sheet .actions)) goal-at goalNodes
+    goal-nodes = nodes-right (nodeAt nodes) (setAt sets) goal-at (length (sheet .actions)) 0 (programNodes (sheet .program) first-set) goalNodes goal-at
+        (omega (arith, nodes-length (sheet .program) first-set)) all-nodes
+
+    -- At the start.
+    pub start-reached : Reached [] 0 (sheetStart sheet)
+    unfolding Follows leftAfter routine policies sheetStart setAfter startSet ProgramsAt
+    start-reached = record {
+      follows = none-follows (routine sheet);
+      left = sheet .program ∷ [];
+      stands = (
+        first-set,
+        goal-at,
+        nodes-left (nodeAt nodes) (setAt sets) goal-at (length (sheet .actions)) 0 (programNodes (sheet .program) first-set) goalNodes all-nodes,
+        row-left (setAt sets) noStates first-set (programSets (sheet .program)) (atomSets (sheet .goal)) condition-sets,
+        accepted-shape bytes sheet read .numbers,
+        inl (omega arith),
+        refl,
+      );
+      policy-left = refl;
+      set-is = refl;
+    }
+
+    -- Where the states of a set are possible that were reached by a history.
+    module _ (h : History) (i : ℕ) (set : States) (reached : Reached h i set) where
+      abbrev at : ℕ → Place
+      at = run nodes (knownBy sets set)
+
+      at-on : (j : ℕ) → j < nodeMost → at j ≡ atNode (λ k. every (member (setAt sets k)) (members set)) (nodeAt nodes j) j (λ skip. at (j + 1 + skip))
+      unfolding knownBy
+      at-on = run-on nodes (knownBy sets set)
+
+      abbrev Settling : List Program → Type 0
+      Settling qs = Settles (nodeAt nodes) (setAt sets) goal-at (length (sheet .actions)) set at at-on i qs
+
+      -- What holds of the set is what holds after the history.
+      pub same-truth : (f : Epistemic) → satisfies (members set) f ≡ holdsAfter sheet h f
+      same-truth f = ap (λ (ss : List ℕ). satisfies ss f) (ap members (reached .set-is) ∙ members-possible sheet few h) ∙ sym (holds-possible sheet h f)
+
+      at-action : (a : ℕ) (rest : Program) (ps : List Program) → Settling (act a rest ∷ ps) → leftAfter (routine sheet) (replies h) ≡ policies sheet (act a rest ∷ ps) h → AtAction h i set
+      unfolding policies policy
+      at-action a rest ps s left =
+          let acts = action-settles (nodeAt nodes) (setAt sets) goal-at (length (sheet .actions)) set at at-on a rest ps (s .place) (s .stands) in
+          let settles : settled nodes sets set i ≡ Place.Act (s .place) a = settled-run nodes sets set i ∙ s .same ∙ acts .0 in
+          let after : (ℕ → Policy) = λ r. policies sheet (rest ∷ ps) (extended h a r) in
+          record {
+            place = s .place;
+            action = a;
+            settles = settles;
+            forward = settled-forward nodes sets set i (s .place) a settles .0;
+            known-action = acts .2;
+            after = after;
+            next = left;
+            onward = λ r. record {
+              follows = next-follows (routine sheet) h a after r (reached .follows) left;
+              left = rest ∷ ps;
+              stands = acts .1;
+              policy-left = ap (leftAfter (routine sheet)) (map-append (λ (e : Entry). e .reply) h (entry a r ∷ [])) ∙ left-more (routine sheet) (replies h) r a after left;
+              set-is = ap (λ (u : States). stepped heads sets u a r) (reached .set-is)
+                  ∙ tabled-step sheet few heads nodes sets tabled (setAfter sheet (startSet sheet) h) (set-states sheet h) a (acts .2) r
+                  ∙ ap setOf (sym (after-more sheet (startSet sheet) h (entry a r)));
+            };
+          }
+
+      at-end : Settling [] → leftAfter (routine sheet) (replies h) ≡ done → AtEnd h i set
+      unfolding ProgramsAt
+      at-end s left = record {
+        settles = settled-run nodes sets set i ∙ s .same ∙ ap at (s .stands)
+            ∙ goal-settles (nodeAt nodes) (setAt sets) goal-at (length (sheet .actions)) set at at-on (sheet .goal) (first-set + programAtoms (sheet .program)) goal-nodes goal-sets
+            ∙ ap Place.End (same-truth (sheet .goal));
+        nothing = left;
+      }
+
+      by-left : (qs : List Program) → Begun qs → Settling qs → leftAfter (routine sheet) (replies h) ≡ policies sheet qs h → AtAction h i set ⊎ AtEnd h i set
+      unfolding Begun policies
+      by-left [] begun s left = inr (at-end s left)
+      by-left (end ∷ ps) begun s left = absurd begun
+      by-left (act a rest ∷ ps) begun s left = inl (at-action a rest ps s left)
+      by-left (branch f y z rest ∷ ps) begun s left = absurd begun
+
+      -- The machine settles where the routine's next action stands, or at the end.
+      pub reached-place : AtAction h i set ⊎ AtEnd h i set
+      reached-place =
+          by-left (allLeft (holdsAfter sheet h) (reached .left)) (all-begun (holdsAfter sheet h) (reached .left))
+          (subst Settling (all-same (satisfies (members set)) (holdsAfter sheet h) same-truth (reached .left))
+          (programs-settle (nodeAt nodes) (setAt sets) goal-at (length (sheet .actions)) set at at-on (reached .left) i (reached .stands)))
+          (reached .policy-left ∙ sym (all-policy sheet h (reached .left)))
+
+      -- Some run has the history exactly if some state is possible.
+      pub reached-occurs : occurs sheet h ≡ nonempty (members set)
+      reached-occurs = occurs-possible sheet h ∙ ap nonempty (sym (ap members (reached .set-is) ∙ members-possible sheet few h))
+
+      -- A state is in the set exactly if a run with the history ends in it: the sets of the code are those of the definition by runs.
+      pub state-run : (s : ℕ) → s < 256 → member set s ≡ true → (run : List ℕ) × IsRun sheet h run × (lastState run ≡ s)
+      state-run s l e = possible-run sheet h (subst (List·Memᴰ s) (ap members (reached .set-is) ∙ members-possible sheet few h) (mem-members set s l e))
+
+      pub run-state : (run : List ℕ) → IsRun sheet h run → member set (lastState run) ≡ true
+      run-state run r =
+          members-mem set (subst (List·Memᴰ (lastState run)) (sym (ap members (reached .set-is) ∙ members-possible sheet few h)) (run-possible sheet h run r)) .1
+
+      -- A history by which something is reached has at most 64 actions.
+      pub reached-few : length h ≤ 64
+      reached-few = actions-most bytes sheet read h (reached .follows)

@@ -1,0 +1,191 @@
+-- One step on the tables of a sheet is one step of the set of possible states.
+use Prim.Native.Nat.{ℕ, zero, suc, _+_, _^_, _<_, _≤_}
+use mathlib.Core.Path.{_≡_, refl, ap, sym, _∙_}
+use mathlib.Core.List.{List, [], _∷_, List·Memᴰ}
+use mathlib.Core.Logic.{⊎-elim}
+use mathlib.Core.Bool.{Bool, true, false, _&&_}
+use native.Mathlib.Omega.{arith}
+use lib.Pow.{pow-mono}
+use lib.Dec.{ltb, eqb}
+use lib.ListN.{length, getD}
+use borrow.Author.Tests.{lt-ltb, le-ltb, ltb-true, ltb-false, eqb-true, eq-eqb, ne-eqb}
+use Rattle.lists.specs.Lists.{if_then_else_, upFrom, below, exists, keep}
+use Rattle.lists.proofs.ListLaws.{two-cases, same-test, not-both, both-true, and-both, exists-mem, mem-exists, upFrom-mem, mem-upFrom, keep-mem, mem-keep}
+use Rattle.states.specs.declared.States.{States}
+use Rattle.states.specs.Sets.{member, setOf, members}
+use Rattle.states.proofs.SetLaws.{member-setOf, set-cong, members-setOf}
+use Rattle.reader.specs.Syntax.{Objective, bottom, Action, change, probe, replyCount, Sheet, actionOf}
+use Rattle.reader.specs.Truth.{isState, states, truth, holds, moves, answers, allowed}
+use Rattle.reader.proofs.StageLaws.{space-states}
+use Rattle.semantics.specs.Runs.{entry, History, step}
+use Rattle.semantics.specs.Progression.{possible, startSet, nextSet, setAfter}
+use Rattle.semantics.proofs.ProgressionLaws.{possible-keep, set-states}
+use Rattle.routine.specs.declared.memory.Head.{Head}
+use Rattle.routine.specs.Memory.{setAt, headAt}
+use Rattle.routine.specs.Tables.{rows}
+use Rattle.routine.proofs.RoomLaws.{made-length}
+use Rattle.routine.proofs.TableLaws.{noStates, made-get, headOf, firstSet, Tabled, row-is, reply-is}
+use Rattle.progression.specs.Machine.{gathered, effect, stepped}
+
+-- The states of a sheet are bytes.
+state-below : (sheet : Sheet) → sheet .facts ≤ 8 → (s : ℕ) → isState sheet s ≡ true → s < 256
+unfolding isState
+state-below sheet few s t =
+    let h : 2 ^ sheet .facts ≤ 2 ^ 8 = pow-mono few in
+    omega (arith, h, ltb-true s (2 ^ sheet .facts) t)
+
+listed : (sheet : Sheet) (s : ℕ) → isState sheet s ≡ true → List·Memᴰ s (states sheet)
+unfolding states isState
+listed sheet s t = mem-keep (isState sheet) (below (2 ^ sheet .facts)) (mem-upFrom 0 (2 ^ sheet .facts) s (omega arith) (omega (arith, ltb-true s (2 ^ sheet .facts) t))) t
+
+listed-state : (sheet : Sheet) {s : ℕ} → List·Memᴰ s (states sheet) → isState sheet s ≡ true
+unfolding states
+listed-state sheet m = keep-mem (isState sheet) (below (2 ^ sheet .facts)) m .1
+
+-- Past its end a list has no element.
+get-past : {A : Type 0} (xs : List A) (j : ℕ) (d : A) → length xs ≤ j → getD xs j d ≡ d
+get-past [] j d l = refl
+get-past (x ∷ xs) zero d l = absurd (omega arith)
+get-past (x ∷ xs) (suc j) d l = get-past xs j d (omega arith)
+
+-- What is kept by a test is kept behind a weaker one.
+keep-within : {A : Type 0} (f g : A → Bool) (xs : List A) → ((a : A) → f a ≡ true → g a ≡ true) → keep f (keep g xs) ≡ keep f xs
+unfolding keep if_then_else_
+keep-within f g [] w = refl
+keep-within f g (x ∷ xs) w = go (g x) refl (f x) refl (keep-within f g xs w)
+  where
+    go : (b : Bool) → g x ≡ b → (c : Bool) → f x ≡ c → keep f (keep g xs) ≡ keep f xs → keep f (if b then x ∷ keep g xs else keep g xs) ≡ (if c then x ∷ keep f xs else keep f xs)
+    go true e true d h = rw d (ap (λ (ys : List _). x ∷ ys) h)
+    go true e false d h = rw d h
+    go false e true d h = not-both (w x d) e
+    go false e false d h = h
+
+-- Where the sets of an action stand: its rows and its reply tables.
+module _ (sheet : Sheet) (few : sheet .facts ≤ 8) (sets : List ℕ) (k : ℕ) (possible-before : ℕ → Bool) (inside : (s : ℕ) → possible-before s ≡ true → isState sheet s ≡ true) where
+  abbrev space : ℕ → Bool
+  space = isState sheet
+
+  abbrev before : ℕ → Bool
+  before = possible-before
+
+  -- The states to which an action with a reply leads from those possible before.
+  abbrev after : Action → (r t : ℕ) → Bool
+  after x r t = space t && exists (λ s. before s && (moves x s t && answers x r t)) (states sheet)
+
+  -- An action with rows gathers them; one without leaves the states.
+  effect-rows : (head : Head) (set : States) → head .rows < head .replies → effect sets head set ≡ gathered sets (head .rows) set
+  unfolding effect
+  effect-rows head set l = ap (λ (b : Bool). if b then gathered sets (head .rows) set else set) (lt-ltb (head .rows) (head .replies) l)
+
+  effect-none : (head : Head) (set : States) → head .replies ≤ head .rows → effect sets head set ≡ set
+  unfolding effect
+  effect-none head set l = ap (λ (b : Bool). if b then gathered sets (head .rows) set else set) (le-ltb (head .rows) (head .replies) l)
+
+  gathered-member : (set : States) (t : ℕ) → t < 256 → member (gathered sets k set) t ≡ exists (λ s. member set s && member (setAt sets (k + s)) t) (below 256)
+  unfolding gathered
+  gathered-member set t l = member-setOf (λ u. exists (λ s. member set s && member (setAt sets (k + s)) u) (below 256)) t l
+
+  -- The effect of an action, in the states in which its reply is true.
+  effect-answered : (x : Action) → ((j : ℕ) → j < length (rows space x) → setAt sets (k + j) ≡ getD (rows space x) j noStates)
+      → (r t : ℕ) → t < 256 → member (effect sets (headOf space k x) (setOf before)) t && answers x r t ≡ after x r t
+  unfolding rows moves
+  effect-answered (change f) row r t l =
+      let long : length (rows space (change f)) ≡ 256 = made-length (λ s. setOf (λ u. space s && space u && truth f s u)) 0 256 in
+      let has : ((s : ℕ) → s < 256 → member (setAt sets (k + s)) t ≡ space s && space t && truth f s t) =
+      λ s m.
+      let z : 0 + s ≡ s = omega arith in
+      ap (λ (u : States). member u t) (row s (omega (arith, long, m)) ∙ made-get (λ s. setOf (λ u. space s && space u && truth f s u)) noStates 0 256 s m)
+      ∙ member-setOf (λ u. space (0 + s) && space u && truth f (0 + s) u) t l ∙ ap (λ (v : ℕ). space v && space t && truth f v t) z in
+      let some = gathered-member (setOf before) t l in
+      ap (λ (u : States). member u t && answers (change f) r t) (effect-rows (headOf space k (change f)) (setOf before) (omega (arith, long)))
+      ∙ (same-test (member (gathered sets k (setOf before)) t && answers (change f) r t) (after (change f) r t)
+      (λ h.
+      let b = both-true (member (gathered sets k (setOf before)) t) (answers (change f) r t) h in
+      let w = exists-mem (λ s. member (setOf before) s && member (setAt sets (k + s)) t) (below 256) (sym some ∙ b .0) in
+      let m : w .0 < 256 = upFrom-mem 0 256 (w .1) .1 in
+      let v = both-true (member (setOf before) (w .0)) (member (setAt sets (k + w .0)) t) (w .2) in
+      let p : before (w .0) ≡ true = sym (member-setOf before (w .0) m) ∙ v .0 in
+      let q = both-true (space (w .0) && space t) (truth f (w .0) t) (sym (has (w .0) m) ∙ v .1) in
+      let u = both-true (space (w .0)) (space t) (q .0) in
+      and-both (space t) (exists (λ s. before s && (truth f s t && answers (change f) r t)) (states sheet)) (u .1)
+      (mem-exists (λ s. before s && (truth f s t && answers (change f) r t)) (states sheet) (listed sheet (w .0) (u .0))
+      (and-both (before (w .0)) (truth f (w .0) t && answers (change f) r t) p (and-both (truth f (w .0) t) (answers (change f) r t) (q .1) (b .1)))))
+      (λ h.
+      let b = both-true (space t) (exists (λ s. before s && (truth f s t && answers (change f) r t)) (states sheet)) h in
+      let w = exists-mem (λ s. before s && (truth f s t && answers (change f) r t)) (states sheet) (b .1) in
+      let v = both-true (before (w .0)) (truth f (w .0) t && answers (change f) r t) (w .2) in
+      let u = both-true (truth f (w .0) t) (answers (change f) r t) (v .1) in
+      let i = inside (w .0) (v .0) in
+      let m = state-below sheet few (w .0) i in
+      and-both (member (gathered sets k (setOf before)) t) (answers (change f) r t)
+      (some ∙ mem-exists (λ s. member (setOf before) s && member (setAt sets (k + s)) t) (below 256) (mem-upFrom 0 256 (w .0) (omega arith) (omega (arith, m)))
+      (and-both (member (setOf before) (w .0)) (member (setAt sets (k + w .0)) t) (member-setOf before (w .0) m ∙ v .0)
+      (has (w .0) m ∙ and-both (space (w .0) && space t) (truth f (w .0) t) (and-both (space (w .0)) (space t) i (b .0)) (u .0))))
+      (u .1)))
+  effect-answered (probe fs) row r t l =
+      ap (λ (u : States). member u t && answers (probe fs) r t) (effect-none (headOf space k (probe fs)) (setOf before) (omega arith))
+      ∙ (same-test (member (setOf before) t && answers (probe fs) r t) (after (probe fs) r t)
+      (λ h.
+      let b = both-true (member (setOf before) t) (answers (probe fs) r t) h in
+      let p : before t ≡ true = sym (member-setOf before t l) ∙ b .0 in
+      let i = inside t p in
+      and-both (space t) (exists (λ s. before s && (eqb s t && answers (probe fs) r t)) (states sheet)) i
+      (mem-exists (λ s. before s && (eqb s t && answers (probe fs) r t)) (states sheet) (listed sheet t i)
+      (and-both (before t) (eqb t t && answers (probe fs) r t) p (and-both (eqb t t) (answers (probe fs) r t) (eq-eqb t t refl) (b .1)))))
+      (λ h.
+      let b = both-true (space t) (exists (λ s. before s && (eqb s t && answers (probe fs) r t)) (states sheet)) h in
+      let w = exists-mem (λ s. before s && (eqb s t && answers (probe fs) r t)) (states sheet) (b .1) in
+      let v = both-true (before (w .0)) (eqb (w .0) t && answers (probe fs) r t) (w .2) in
+      let u = both-true (eqb (w .0) t) (answers (probe fs) r t) (v .1) in
+      and-both (member (setOf before) t) (answers (probe fs) r t) (member-setOf before t l ∙ ap before (sym (eqb-true (w .0) t (u .0))) ∙ v .0) (u .1)))
+
+  -- A reply that the action doesn't have is true nowhere.
+  no-reply : (x : Action) (r t : ℕ) → replyCount x ≤ r → answers x r t ≡ false
+  unfolding answers replyCount holds truth
+  no-reply (change f) zero t l = absurd (omega arith)
+  no-reply (change f) (suc r) t l = ne-eqb (suc r) 0 (λ e. omega (arith, e))
+  no-reply (probe fs) r t l = ap (λ (f : Objective). holds f t) (get-past fs r bottom l)
+
+  after-none : (x : Action) (r t : ℕ) → replyCount x ≤ r → after x r t ≡ false
+  after-none x r t l =
+      ⊎-elim (λ (e : after x r t ≡ true).
+      let b = both-true (space t) (exists (λ s. before s && (moves x s t && answers x r t)) (states sheet)) e in
+      let w = exists-mem (λ s. before s && (moves x s t && answers x r t)) (states sheet) (b .1) in
+      let v = both-true (before (w .0)) (moves x (w .0) t && answers x r t) (w .2) in
+      let u = both-true (moves x (w .0) t) (answers x r t) (v .1) in
+      not-both (u .1) (no-reply x r t l))
+      (λ e. e) (two-cases (after x r t))
+
+  -- One step of the machine.
+  step-answered : (x : Action) → ((j : ℕ) → j < length (rows space x) → setAt sets (k + j) ≡ getD (rows space x) j noStates)
+      → ((r : ℕ) → r < replyCount x → setAt sets (k + length (rows space x) + r) ≡ setOf (λ t. answers x r t))
+      → (r : ℕ)
+      → (if ltb r (replyCount x) then setOf (λ t. member (effect sets (headOf space k x) (setOf before)) t && member (setAt sets (k + length (rows space x) + r)) t) else setOf (λ t. false))
+      ≡ setOf (λ t. after x r t)
+  unfolding if_then_else_
+  step-answered x row reply r = go (ltb r (replyCount x)) refl
+    where
+      go : (b : Bool) → ltb r (replyCount x) ≡ b
+          → (if b then setOf (λ t. member (effect sets (headOf space k x) (setOf before)) t && member (setAt sets (k + length (rows space x) + r)) t) else setOf (λ t. false)) ≡ setOf (λ t. after x r t)
+      go true e =
+          set-cong _ _ (λ t l.
+          ap (λ (b : Bool). member (effect sets (headOf space k x) (setOf before)) t && b)
+          (ap (λ (u : States). member u t) (reply r (ltb-true r (replyCount x) e)) ∙ member-setOf (λ u. answers x r u) t l)
+          ∙ effect-answered x row r t l)
+      go false e = set-cong _ _ (λ t l. sym (after-none x r t (ltb-false r (replyCount x) e)))
+
+-- A step on the tables of a sheet leads from the states possible before to those possible after the action and its reply.
+pub tabled-step : (sheet : Sheet) → sheet .facts ≤ 8 → (heads nodes sets : List ℕ) → Tabled sheet heads nodes sets → (from : ℕ → Bool) → ((s : ℕ) → from s ≡ true → isState sheet s ≡ true)
+    → (a : ℕ) → a < length (sheet .actions) → (r : ℕ) → stepped heads sets (setOf from) a r ≡ setOf (nextSet sheet from (entry a r))
+unfolding stepped nextSet step allowed
+tabled-step sheet few heads nodes sets tabled from inside a l r =
+    ap (λ (x : Head). if ltb r (x .count) then setOf (λ t. member (effect sets x (setOf from)) t && member (setAt sets (x .replies + r)) t) else setOf (λ t. false)) (tabled .head-is a l)
+    ∙ step-answered sheet few sets (firstSet (isState sheet) (sheet .actions) a) from inside (actionOf sheet a) (row-is sheet heads nodes sets tabled a l)
+    (reply-is sheet heads nodes sets tabled a l) r
+
+-- The members of the set of possible states are the states possible after the history.
+pub members-possible : (sheet : Sheet) → sheet .facts ≤ 8 → (h : History) → members (setOf (setAfter sheet (startSet sheet) h)) ≡ possible sheet h
+unfolding isState
+members-possible sheet few h =
+    members-setOf (setAfter sheet (startSet sheet) h) ∙ sym (keep-within (setAfter sheet (startSet sheet) h) (isState sheet) (below 256) (set-states sheet h))
+    ∙ ap (keep (setAfter sheet (startSet sheet) h)) (sym (members-setOf (isState sheet)) ∙ space-states sheet few) ∙ sym (possible-keep sheet h)

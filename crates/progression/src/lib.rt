@@ -1,0 +1,8 @@
+// One step of a routine on the set of possible states, over its tables.
+mod place;
+mod steps;
+
+pub use place::Place;
+pub use place::known;
+pub use place::settle;
+pub use steps::step;

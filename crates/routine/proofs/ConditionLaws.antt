@@ -1,0 +1,292 @@
+-- Laws of epistemic formulas: how the first node tells the parts of one that is read, how many atoms it has, and how its tests and sets are written part by part.
+-- Assumes nothing.
+use Prim.Native.Nat.{ℕ, zero, suc, _+_, _-_, _*_, _≤_, _<_}
+use mathlib.Core.Path.{_≡_, refl, sym, ap, subst, _∙_}
+use mathlib.Core.List.{List, _++_, flatMap}
+use mathlib.Core.Bool.{false}
+use native.Mathlib.Omega.{arith}
+use lib.Dec.{eqb}
+use lib.ListN.{length, length-append}
+use Rattle.states.specs.declared.States.{States}
+use Rattle.states.specs.Sets.{setOf}
+use Rattle.reader.specs.Syntax.{Objective, Epistemic, known, not-known, all-of, any-of}
+use Rattle.reader.specs.Truth.{holds}
+use Rattle.reader.specs.Format.{Read, got, fault, mapped, deepest, objective, epistemicBehind, epistemic}
+use Rattle.reader.specs.Nodes.{EpistemicHead, known-head, not-known-head, all-of-head, any-of-head, epistemicHead, ofSheet}
+use Rattle.reader.specs.Answers.{inTheory, table}
+use Rattle.reader.specs.declared.formula.View.{View}
+use Rattle.reader.specs.Standing.{ObjectiveAt, EpistemicAt}
+use Rattle.reader.proofs.FormatLaws.{Finds, finds-give, finds-refuse, finds-if, finds-behind, finds-field}
+use Rattle.reader.proofs.FormulaLaws.{objective-levels}
+use Rattle.reader.proofs.NodeLaws.{sheet-short, known-first, not-known-first, all-of-first, any-of-first}
+use Rattle.reader.proofs.StandingLaws.{objective-inside, epistemic-inside, standing-epistemic, standing-evaluated}
+use Rattle.routine.specs.declared.conditions.Extent.{Extent}
+use Rattle.routine.specs.Memory.{write, words, cells}
+use Rattle.routine.specs.Tables.{atoms, atomSets, tests}
+use Rattle.routine.specs.Filling.{Atom, AtomMeasures, AtomFills, Formula, Measures, FormulaRoom, FormulaFills}
+use Rattle.routine.proofs.SizeLaws.{tests-length, atom-sets-length, some-atom, atoms-bits}
+use Rattle.routine.proofs.WriteLaws.{spread-one, spread-back, words-four, cells-four}
+
+module _ (bytes : List ℕ) (n : ℕ) where
+  -- So it has at most as many as a sheet has bits.
+  atoms-few : (left p : ℕ) (f : Epistemic) (q : ℕ) → length bytes ≤ 1024 → left ≤ 16 → epistemic n left bytes p ≡ got f q → atoms f ≤ 8192
+  atoms-few left p f q short l e =
+      let s = standing-epistemic bytes n left l p .found f q e in
+      omega (arith, atoms-bits bytes n f p q s, epistemic-inside bytes n f p q s)
+
+module _ (bytes : List ℕ) (n left : ℕ) where
+  -- A formula of an atom whose objective formula stands from p to q.
+  pub record AtomAt (make : Objective → Epistemic) (f : Epistemic) (p q : ℕ) : Type 0 where
+    pub inner : Objective
+    pub is : f ≡ make inner
+    pub stands : ObjectiveAt bytes n false inner p q
+
+  -- A formula of two parts that are read from p to q, with one level less.
+  pub record PairAt (make : Epistemic → Epistemic → Epistemic) (f : Epistemic) (p q : ℕ) : Type 0 where
+    pub first : Epistemic
+    pub second : Epistemic
+    pub middle : ℕ
+    pub is : f ≡ make first second
+    pub many : atoms f ≡ atoms first + atoms second
+    pub first-read : epistemic n (left - 1) bytes p ≡ got first middle
+    pub second-read : epistemic n (left - 1) bytes middle ≡ got second q
+    pub some : 1 ≤ left
+
+  -- The parts of a formula that ends at q, by what its first node is.
+  abbrev pub Parts : Read EpistemicHead → (f : Epistemic) (q : ℕ) → Type 0
+  Parts (got known-head p) f q = AtomAt known f p q
+  Parts (got not-known-head p) f q = AtomAt not-known f p q
+  Parts (got all-of-head p) f q = PairAt all-of f p q
+  Parts (got any-of-head p) f q = PairAt any-of f p q
+  Parts (fault r) f q = ⊥
+
+module _ (bytes : List ℕ) (n : ℕ) where
+  parts-found : (left : ℕ) → left ≤ 16 → (at : ℕ) → Finds bytes at (λ f q. Parts bytes n left (epistemicHead bytes at) f q) (epistemic n left)
+  unfolding epistemic epistemicBehind atoms
+  parts-found zero l at = finds-refuse bytes at _ 8
+  parts-found (suc d) l at =
+      finds-field bytes at Q 2 (at + 2) refl _ (λ tag e low.
+      finds-if bytes (at + 2) Q (eqb tag 0) _ _
+      (λ t. finds-behind bytes (at + 2) Q (objective n false d) _ (λ f q h. finds-give bytes q Q (known f) (rw (known-first bytes at e t) (atom known f q h))))
+      (λ t. finds-if bytes (at + 2) Q (eqb tag 1) _ _
+      (λ u. finds-behind bytes (at + 2) Q (objective n false d) _ (λ f q h. finds-give bytes q Q (not-known f) (rw (not-known-first bytes at e t u) (atom not-known f q h))))
+      (λ u. finds-if bytes (at + 2) Q (eqb tag 2) _ _
+      (λ v. finds-behind bytes (at + 2) Q (epistemic n d) _ (λ f r h. finds-behind bytes r Q (epistemic n d) _ (λ g q i.
+      finds-give bytes q Q (all-of f g) (rw (all-of-first bytes at e t u v) (pair all-of f r h g q i refl)))))
+      (λ v. finds-behind bytes (at + 2) Q (epistemic n d) _ (λ f r h. finds-behind bytes r Q (epistemic n d) _ (λ g q i.
+      finds-give bytes q Q (any-of f g) (rw (any-of-first bytes at e t u v) (pair any-of f r h g q i refl))))))))
+    where
+      Q : Epistemic → ℕ → Type 0
+      Q f q = Parts bytes n (suc d) (epistemicHead bytes at) f q
+
+      atom : (make : Objective → Epistemic) (f : Objective) (q : ℕ) → objective n false d bytes (at + 2) ≡ got f q → AtomAt bytes n (suc d) make (make f) (at + 2) q
+      atom make f q h = record { inner = f; is = refl; stands = objective-levels n false d 16 (omega arith) bytes (at + 2) f q h }
+
+      less : d ≡ suc d - 1
+      less = omega arith
+
+      pair : (make : Epistemic → Epistemic → Epistemic) (f : Epistemic) (r : ℕ) → epistemic n d bytes (at + 2) ≡ got f r → (g : Epistemic) (q : ℕ) → epistemic n d bytes r ≡ got g q
+          → atoms (make f g) ≡ atoms f + atoms g → PairAt bytes n (suc d) make (make f g) (at + 2) q
+      pair make f r h g q i many =
+          record {
+            first = f;
+            second = g;
+            middle = r;
+            is = refl;
+            many = many;
+            first-read = subst (λ (j : ℕ). epistemic n j bytes (at + 2) ≡ got f r) less h;
+            second-read = subst (λ (j : ℕ). epistemic n j bytes r ≡ got g q) less i;
+            some = omega arith;
+          }
+
+  -- The parts of a formula that is read, by what `epistemic_node` answers.
+  pub formula-parts : (left at : ℕ) {h : Read EpistemicHead} → length bytes ≤ 1024 → left ≤ 16 → h ≡ ofSheet epistemicHead bytes at
+      → (f : Epistemic) (q : ℕ) → epistemic n left bytes at ≡ got f q → Parts bytes n left h f q
+  formula-parts left at short l e f q r =
+      subst (λ x. Parts bytes n left x f q) (sheet-short epistemicHead bytes at short refl ∙ sym e) (parts-found left l at .found f q r)
+
+module _ (bytes : List ℕ) (n at : ℕ) (short : length bytes ≤ 1024) where
+  -- Where an atom's formula stands, its evaluation isn't refused.
+  pub atom-refused : {r : ℕ} → Atom bytes n at → fault r ≡ mapped (table View.States) (ofSheet (objective n (inTheory View.States) deepest) bytes at) → ⊥
+  unfolding inTheory
+  atom-refused a e =
+      let g = e ∙ standing-evaluated bytes n View.States (a .formula) at (a .next) short (a .stands) in
+      let z : _≡_ {A = ℕ} 0 1 = cc in
+      omega arith
+
+  module _ {set : States} {end : ℕ} (e : got set end ≡ mapped (table View.States) (ofSheet (objective n (inTheory View.States) deepest) bytes at)) (f : Objective) (q : ℕ) (h : ObjectiveAt bytes n false f at q) where
+    whole : got set end ≡ got (setOf (λ s. holds f s)) q
+    unfolding inTheory table holds
+    whole = e ∙ standing-evaluated bytes n View.States f at q short h
+
+    -- It gives the set of the states in which the formula holds, and where it ends.
+    pub atom-set : set ≡ setOf (λ s. holds f s)
+    atom-set = let w = whole in cc
+
+    pub atom-end : end ≡ q
+    atom-end = let w = whole in cc
+
+module _ (bytes : List ℕ) (n left : ℕ) where
+  -- The extent of a formula is that of its atom, or that of its parts together.
+  module _ (f : Epistemic) (p q : ℕ) {r : Extent} (m : AtomMeasures bytes n p r) where
+    pub measured-known : AtomAt bytes n left known f p q → r ≡ record { atoms = atoms f; at = q }
+    unfolding atoms
+    measured-known h = rw (h .is) (m (h .inner) q (h .stands))
+
+    pub measured-not-known : AtomAt bytes n left not-known f p q → r ≡ record { atoms = atoms f; at = q }
+    unfolding atoms
+    measured-not-known h = rw (h .is) (m (h .inner) q (h .stands))
+
+  -- The parts of a formula of two, and how far they reach.
+  module _ {make : Epistemic → Epistemic → Epistemic} {f : Epistemic} {p q : ℕ} (h : PairAt bytes n left make f p q) where
+    pub first-formula : left ≤ 16 → Formula bytes n (left - 1) p
+    first-formula l = record { formula = h .first; next = h .middle; read = h .first-read; levels = omega arith }
+
+    module _ {x : Extent} (mx : Measures bytes n (left - 1) p x) where
+      first-extent : x ≡ record { atoms = atoms (h .first); at = h .middle }
+      first-extent = mx (h .first) (h .middle) (h .first-read)
+
+      second-read-at : epistemic n (left - 1) bytes (x .at) ≡ got (h .second) q
+      second-read-at = ap (λ (v : Extent). epistemic n (left - 1) bytes (v .at)) first-extent ∙ h .second-read
+
+      pub second-formula : left ≤ 16 → Formula bytes n (left - 1) (x .at)
+      second-formula l = record { formula = h .second; next = q; read = second-read-at; levels = omega arith }
+
+      module _ {y : Extent} (my : Measures bytes n (left - 1) (x .at) y) where
+        second-extent : y ≡ record { atoms = atoms (h .second); at = q }
+        second-extent = my (h .second) q second-read-at
+
+        pair-extent : _≡_ {A = Extent} (record { atoms = x .atoms + y .atoms; at = y .at }) (record { atoms = atoms (h .first) + atoms (h .second); at = q })
+        pair-extent = rw (first-extent, second-extent)
+
+        -- Their atoms are counted without overflow.
+        pub pair-few : length bytes ≤ 1024 → left ≤ 16 → x .atoms + y .atoms ≤ 16384
+        pair-few short l =
+            let a = ap (λ (v : Extent). v .atoms) first-extent in
+            let b = ap (λ (v : Extent). v .atoms) second-extent in
+            omega (
+              arith,
+              atoms-few bytes n (left - 1) p (h .first) (h .middle) short (omega arith) (h .first-read),
+              atoms-few bytes n (left - 1) (h .middle) (h .second) q short (omega arith) (h .second-read),
+            )
+
+  module _ {f : Epistemic} {p q : ℕ} {x y : Extent} (mx : Measures bytes n (left - 1) p x) (my : Measures bytes n (left - 1) (x .at) y) where
+    pub measured-all-of : PairAt bytes n left all-of f p q → _≡_ {A = Extent} (record { atoms = x .atoms + y .atoms; at = y .at }) (record { atoms = atoms f; at = q })
+    unfolding atoms
+    measured-all-of h = rw (h .is) (pair-extent h mx my)
+
+    pub measured-any-of : PairAt bytes n left any-of f p q → _≡_ {A = Extent} (record { atoms = x .atoms + y .atoms; at = y .at }) (record { atoms = atoms f; at = q })
+    unfolding atoms
+    measured-any-of h = rw (h .is) (pair-extent h mx my)
+
+-- The tests and the sets of a formula are written from node `base` and from set k on, and r is its extent.
+abbrev Laid : (base k met unmet : ℕ) (f : Epistemic) (q : ℕ) (nodes nodes′ sets sets′ : List ℕ) → Extent → Type 0
+Laid base k met unmet f q nodes nodes′ sets sets′ r =
+    (r ≡ record { atoms = atoms f; at = q })
+    × (nodes′ ≡ write nodes (4 * base) (flatMap cells (tests f k met unmet)))
+    × (sets′ ≡ write sets (4 * k) (flatMap words (atomSets f)))
+
+module _ (bytes : List ℕ) (n left base k met unmet : ℕ) where
+  -- Those of an atom are one test and one set.
+  module _ (f : Epistemic) (p q : ℕ) (nodes sets : List ℕ) {nodes′ sets′ : List ℕ} {r : Extent} where
+    pub laid-known : AtomFills bytes n p base k met unmet nodes nodes′ sets sets′ r → AtomAt bytes n left known f p q → Laid base k met unmet f q nodes nodes′ sets sets′ r
+    unfolding atoms tests atomSets
+    laid-known fills h =
+        let a = fills (h .inner) q (h .stands) in
+        rw (h .is) (a .0, a .1 ∙ ap (write nodes (4 * base)) (sym (spread-one cells _)), a .2 ∙ ap (write sets (4 * k)) (sym (spread-one words _)))
+
+    pub laid-not-known : AtomFills bytes n p base k unmet met nodes nodes′ sets sets′ r → AtomAt bytes n left not-known f p q → Laid base k met unmet f q nodes nodes′ sets sets′ r
+    unfolding atoms tests atomSets
+    laid-not-known fills h =
+        let a = fills (h .inner) q (h .stands) in
+        rw (h .is) (a .0, a .1 ∙ ap (write nodes (4 * base)) (sym (spread-one cells _)), a .2 ∙ ap (write sets (4 * k)) (sym (spread-one words _)))
+
+  -- Those of two parts stand one behind the other; the second part is written first.
+  module _ {f : Epistemic} {p q : ℕ} (nodes nodes₁ sets sets₁ : List ℕ) {nodes₂ sets₂ : List ℕ} {x y z : Extent} (mx : Measures bytes n (left - 1) p x)
+      (later : FormulaFills bytes n (left - 1) (x .at) (base + x .atoms) (k + x .atoms) met unmet nodes nodes₁ sets sets₁ y) where
+    laid-pair : {make : Epistemic → Epistemic → Epistemic} (h : PairAt bytes n left make f p q) (m u : ℕ → ℕ)
+        → FormulaFills bytes n (left - 1) p base k (m (y .atoms)) (u (y .atoms)) nodes₁ nodes₂ sets₁ sets₂ z
+        → (_≡_ {A = Extent} (record { atoms = x .atoms + y .atoms; at = y .at }) (record { atoms = atoms (h .first) + atoms (h .second); at = q }))
+        × (nodes₂ ≡ write nodes (4 * base) (flatMap cells (tests (h .first) k (m (atoms (h .second))) (u (atoms (h .second))) ++ tests (h .second) (k + atoms (h .first)) met unmet)))
+        × (sets₂ ≡ write sets (4 * k) (flatMap words (atomSets (h .first) ++ atomSets (h .second))))
+    laid-pair h m u earlier =
+        let i = atoms (h .first) in
+        let j = atoms (h .second) in
+        let a : Laid (base + i) (k + i) met unmet (h .second) q nodes nodes₁ sets sets₁ y =
+        subst (λ (v : Extent). FormulaFills bytes n (left - 1) (v .at) (base + v .atoms) (k + v .atoms) met unmet nodes nodes₁ sets sets₁ y) (first-extent bytes n left h mx) later (h .second) q (h .second-read) in
+        let b : Laid base k (m j) (u j) (h .first) (h .middle) nodes₁ nodes₂ sets₁ sets₂ z =
+        subst (λ (v : Extent). FormulaFills bytes n (left - 1) p base k (m (v .atoms)) (u (v .atoms)) nodes₁ nodes₂ sets₁ sets₂ z) (a .0) earlier (h .first) (h .middle) (h .first-read) in (
+          pair-extent bytes n left h mx (λ g r e. later g r e .0),
+          spread-back cells cells-four nodes nodes₁ nodes₂ base (base + i) (tests (h .first) k (m j) (u j)) (tests (h .second) (k + i) met unmet) (a .1) (b .1)
+              (ap (λ (v : ℕ). base + v) (tests-length (h .first) k (m j) (u j))),
+          spread-back words words-four sets sets₁ sets₂ k (k + i) (atomSets (h .first)) (atomSets (h .second)) (a .2) (b .2)
+              (ap (λ (v : ℕ). k + v) (atom-sets-length (h .first))),
+        )
+
+    pub laid-all-of : FormulaFills bytes n (left - 1) p base k 0 (y .atoms + unmet) nodes₁ nodes₂ sets₁ sets₂ z → PairAt bytes n left all-of f p q
+        → Laid base k met unmet f q nodes nodes₂ sets sets₂ (record { atoms = x .atoms + y .atoms; at = y .at })
+    unfolding atoms tests atomSets
+    laid-all-of earlier h = rw (h .is) (laid-pair h (λ v. 0) (λ v. v + unmet) earlier)
+
+    pub laid-any-of : FormulaFills bytes n (left - 1) p base k (y .atoms + met) 0 nodes₁ nodes₂ sets₁ sets₂ z → PairAt bytes n left any-of f p q
+        → Laid base k met unmet f q nodes nodes₂ sets sets₂ (record { atoms = x .atoms + y .atoms; at = y .at })
+    unfolding atoms tests atomSets
+    laid-any-of earlier h = rw (h .is) (laid-pair h (λ v. v + met) (λ v. 0) earlier)
+
+  -- Room for an atom.
+  pub atom-room : {at : ℕ} (r : FormulaRoom bytes n left at base k met unmet) → (base < 2048) × (k < 10240) × (met < 65536) × (unmet < 65536)
+  atom-room r =
+      let some = some-atom (r .formula) in
+      (omega (arith, r .nodes-room), omega (arith, r .sets-room), omega (arith, r .met-inside), omega (arith, r .unmet-inside))
+
+  -- Room for two parts.
+  module _ {at p : ℕ} (room : FormulaRoom bytes n left at base k met unmet) {make : Epistemic → Epistemic → Epistemic} (h : PairAt bytes n left make (room .formula) p (room .next))
+      {x : Extent} (mx : Measures bytes n (left - 1) p x) where
+    pub second-fits : (base + x .atoms ≤ 2048) × (k + x .atoms ≤ 10240)
+    second-fits =
+        let a = ap (λ (v : Extent). v .atoms) (first-extent bytes n left h mx) in
+        (omega (arith, room .nodes-room, h .many), omega (arith, room .sets-room, h .many))
+
+    pub second-room : FormulaRoom bytes n (left - 1) (x .at) (base + x .atoms) (k + x .atoms) met unmet
+    second-room =
+        let a = ap (λ (v : Extent). v .atoms) (first-extent bytes n left h mx) in
+        record {
+          formula = h .second;
+          next = room .next;
+          read = second-read-at bytes n left h mx;
+          levels = omega (arith, room .levels);
+          nodes-room = omega (arith, room .nodes-room, h .many);
+          sets-room = omega (arith, room .sets-room, h .many);
+          met-inside = omega (arith, room .met-inside, h .many);
+          unmet-inside = omega (arith, room .unmet-inside, h .many);
+        }
+
+    module _ {y : Extent} (my : Measures bytes n (left - 1) (x .at) y) where
+      abbrev both : (x .atoms ≡ atoms (h .first)) × (y .atoms ≡ atoms (h .second))
+      both = (ap (λ (v : Extent). v .atoms) (first-extent bytes n left h mx), ap (λ (v : Extent). v .atoms) (second-extent bytes n left h mx my))
+
+      pub first-fits : (y .atoms + met ≤ 2048) × (y .atoms + unmet ≤ 2048) × (x .atoms + y .atoms ≤ 2048)
+      first-fits = let b = both in (omega (arith, room .met-inside, h .many), omega (arith, room .unmet-inside, h .many), omega (arith, room .nodes-room, h .many))
+
+      first-room : (m u : ℕ) → base + atoms (h .first) + m ≤ 2048 → base + atoms (h .first) + u ≤ 2048 → FormulaRoom bytes n (left - 1) p base k m u
+      first-room m u lm lu =
+          record {
+            formula = h .first;
+            next = h .middle;
+            read = h .first-read;
+            levels = omega (arith, room .levels);
+            nodes-room = omega (arith, room .nodes-room, h .many);
+            sets-room = omega (arith, room .sets-room, h .many);
+            met-inside = lm;
+            unmet-inside = lu;
+          }
+
+      pub first-room-all : FormulaRoom bytes n (left - 1) p base k 0 (y .atoms + unmet)
+      first-room-all =
+          let b = both in
+          first-room 0 (y .atoms + unmet) (omega (arith, room .nodes-room, h .many)) (omega (arith, room .unmet-inside, h .many))
+
+      pub first-room-any : FormulaRoom bytes n (left - 1) p base k (y .atoms + met) 0
+      first-room-any =
+          let b = both in
+          first-room (y .atoms + met) 0 (omega (arith, room .met-inside, h .many)) (omega (arith, room .nodes-room, h .many))

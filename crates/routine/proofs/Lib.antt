@@ -1,0 +1,9 @@
+pub mod WriteLaws
+pub mod MemoryLaws
+pub mod SizeLaws
+pub mod ActionLaws
+pub mod ConditionLaws
+pub mod ProgramLaws
+pub mod RoomLaws
+pub mod PrepareLaws
+pub mod TableLaws

@@ -1,0 +1,102 @@
+-- How many sets and nodes a sheet has, and that those of an accepted sheet have room in the memory.
+use Prim.Native.Nat.{ℕ, zero, suc, _+_, _*_, _<_, _≤_}
+use mathlib.Core.Path.{_≡_, refl, ap, sym, _∙_}
+use mathlib.Core.List.{List, [], _∷_, _++_, map, flatMap, List·Memᴰ, List·Memᴰ·head, List·Memᴰ·tail}
+use mathlib.Core.Bool.{Bool, true, false, _&&_}
+use native.Mathlib.Omega.{arith}
+use lib.ListN.{length, length-append}
+use Rattle.lists.specs.Lists.{upFrom}
+use Rattle.reader.specs.Syntax.{Epistemic, known, not-known, all-of, any-of, Program, end, act, branch, actionNodes, branchNodes, Action, change, probe, replyCount, Sheet}
+use Rattle.states.specs.Sets.{setOf}
+use Rattle.reader.specs.Truth.{isState, truth, answers}
+use Rattle.reader.specs.Format.{accepted, reading}
+use Rattle.reader.specs.Standing.{EpistemicAt, ProgramAt}
+use Rattle.reader.proofs.FormulaLaws.{objective-onward}
+use Rattle.reader.proofs.SheetLaws.{FewReplies, accepted-shape}
+use Rattle.reader.proofs.StandingLaws.{accepted-standing}
+use Rattle.routine.proofs.SizeLaws.{tests-length, atom-sets-length, nodes-length, program-sets-length, size-nodes, atoms-bits, program-bits}
+use Rattle.routine.specs.declared.memory.Node.{Node}
+use Rattle.routine.specs.Tables.{rows, replyTables, actionSets, headCells, atoms, atomSets, tests, size, programAtoms, programSets, programNodes, sheetActionSets, sheetSets, sheetNodes}
+
+-- What is made of k numbers has k elements.
+pub made-length : {A : Type 0} (make : ℕ → A) (a k : ℕ) → length (map make (upFrom a k)) ≡ k
+unfolding upFrom
+made-length make a zero = refl
+made-length make a (suc k) = ap suc (made-length make (suc a) k)
+
+-- An action has at most 264 sets: 256 rows and 8 replies.
+module _ (space : ℕ → Bool) where
+  pub rows-most : (a : Action) → length (rows space a) ≤ 256
+  unfolding rows
+  rows-most (change f) = omega (arith, made-length (λ s. setOf (λ t. space s && space t && truth f s t)) 0 256)
+  rows-most (probe fs) = omega arith
+
+  pub replies-length : (a : Action) → length (replyTables space a) ≡ replyCount a
+  unfolding replyTables
+  replies-length a = made-length (λ r. setOf (λ t. answers a r t)) 0 (replyCount a)
+
+  pub action-length : (a : Action) → length (actionSets space a) ≡ length (rows space a) + replyCount a
+  unfolding actionSets
+  action-length a = length-append (rows space a) (replyTables space a) ∙ ap (λ (k : ℕ). length (rows space a) + k) (replies-length a)
+
+  actions-most : (actions : List Action) → ((a : Action) → List·Memᴰ a actions → FewReplies a) → length (flatMap (actionSets space) actions) ≤ 264 * length actions
+  unfolding flatMap
+  actions-most [] few = omega arith
+  actions-most (a ∷ later) few =
+      omega (
+        arith,
+        length-append (actionSets space a) (flatMap (actionSets space) later),
+        action-length a,
+        rows-most a,
+        few a (List·Memᴰ·head refl) .1,
+        actions-most later (λ b m. few b (List·Memᴰ·tail m)),
+      )
+
+  -- The head of an action takes three numbers.
+  pub heads-length : (k : ℕ) (actions : List Action) → length (headCells space k actions) ≡ 3 * length actions
+  unfolding headCells
+  heads-length k [] = refl
+  heads-length k (a ∷ later) = omega (arith, heads-length (k + length (actionSets space a)) later)
+
+-- The tables of an accepted sheet have room.
+pub record Room (sheet : Sheet) : Type 0 where
+  pub actions-room : length (sheetActionSets sheet) ≤ 8184
+  pub sets-room : length (sheetActionSets sheet) + (programAtoms (sheet .program) + atoms (sheet .goal)) ≤ 10240
+  pub nodes-room : size (sheet .program) + (atoms (sheet .goal) + 2) ≤ 2048
+
+pub accepted-room : (bytes : List ℕ) (sheet : Sheet) → reading bytes ≡ accepted sheet → Room sheet
+unfolding sheetActionSets
+accepted-room bytes sheet e =
+    let shape = accepted-shape bytes sheet e in
+    let stands = accepted-standing bytes sheet e in
+    let a = actions-most (isState sheet) (sheet .actions) (shape .replies-few) in
+    let g = atoms-bits bytes (sheet .facts) (sheet .goal) (stands .goal-at) (stands .program-at) (stands .goal-stands) in
+    let p = program-bits bytes (sheet .facts) (sheet .program) (stands .program-at) (stands .end-at) (stands .program-stands) in
+    let fits : 5 * (programAtoms (sheet .program) + atoms (sheet .goal)) ≤ 8192 = omega (arith, g, p, stands .inside, stands .short) in
+    let most : length (flatMap (actionSets (isState sheet)) (sheet .actions)) ≤ 8184 = omega (arith, a, shape .actions-most) in
+    record {
+      actions-room = most;
+      sets-room = omega (arith, most, fits);
+      nodes-room = omega (arith, size-nodes (sheet .program), shape .acts-most, shape .branches-most, fits);
+    }
+
+-- The lengths of a sheet's sets and nodes.
+pub sheet-sets-length : (sheet : Sheet) → length (sheetSets sheet) ≡ length (sheetActionSets sheet) + (programAtoms (sheet .program) + atoms (sheet .goal))
+unfolding sheetSets
+sheet-sets-length sheet =
+    omega (
+      arith,
+      length-append (sheetActionSets sheet) (programSets (sheet .program) ++ atomSets (sheet .goal)),
+      length-append (programSets (sheet .program)) (atomSets (sheet .goal)),
+      program-sets-length (sheet .program),
+      atom-sets-length (sheet .goal),
+    )
+
+pub sheet-nodes-length : (sheet : Sheet) → length (sheetNodes sheet) ≡ size (sheet .program) + (atoms (sheet .goal) + 2)
+unfolding sheetNodes
+sheet-nodes-length sheet =
+    let k = length (sheetActionSets sheet) in
+    let ps = programNodes (sheet .program) k in
+    let gs = tests (sheet .goal) (k + programAtoms (sheet .program)) 0 1 in
+    let ends : List Node = Node.End true ∷ Node.End false ∷ [] in
+    omega (arith, length-append ps (gs ++ ends), length-append gs ends, nodes-length (sheet .program) k, tests-length (sheet .goal) (k + programAtoms (sheet .program)) 0 1)

@@ -1,0 +1,228 @@
+-- What stands in the memory after a sheet was prepared: its sets, its nodes and the heads of its actions.
+use Prim.Native.Nat.{ℕ, zero, suc, _+_, _*_, _<_, _≤_}
+use mathlib.Core.Path.{_≡_, refl, ap, sym, _∙_}
+use mathlib.Core.List.{List, [], _∷_, _++_, map, flatMap}
+use mathlib.Core.Bool.{Bool, true, false}
+use native.Mathlib.Omega.{arith}
+use lib.Dec.{ltb, eqb}
+use lib.ListN.{length, getD, set, take, length-set, length-append, List·getD-append}
+use lib.Seq.{getD-set-same, getD-set-other}
+use borrow.Author.Tests.{lt-ltb}
+use Rattle.lists.specs.Lists.{if_then_else_, upFrom}
+use Rattle.states.specs.declared.States.{States}
+use Rattle.states.specs.Sets.{setOf}
+use Rattle.reader.specs.Syntax.{Action, probe, replyCount, Sheet, actionOf}
+use Rattle.reader.specs.Truth.{isState, answers}
+use Rattle.reader.specs.Format.{Answer, accepted, reading}
+use Rattle.reader.proofs.SheetLaws.{accepted-shape}
+use Rattle.routine.specs.declared.memory.Node.{Node}
+use Rattle.routine.specs.declared.memory.Head.{Head}
+use Rattle.routine.specs.Memory.{write, words, cells, setAt, nodeOf, nodeAt, headAt}
+use Rattle.routine.specs.Tables.{rows, replyTables, actionSets, atomSets, programSets, headCells, sheetActionSets, sheetSets, sheetNodes, sheetHeads, setWords, nodeCells, prepared}
+use Rattle.routine.proofs.WriteLaws.{spread-length, words-four, cells-four}
+use Rattle.routine.proofs.RoomLaws.{action-length, heads-length, sheet-sets-length, sheet-nodes-length, accepted-room}
+
+-- What was written is read back.
+write-past : (xs : List ℕ) (i : ℕ) (ys : List ℕ) (j : ℕ) → j < i → getD (write xs i ys) j 0 ≡ getD xs j 0
+unfolding write
+write-past xs i [] j l = refl
+write-past xs i (y ∷ ys) j l = write-past (set xs i y) (i + 1) ys j (omega arith) ∙ getD-set-other xs i j y 0 (λ e. omega (arith, e))
+
+write-back : (xs : List ℕ) (i : ℕ) (ys : List ℕ) → i + length ys ≤ length xs → (j : ℕ) → j < length ys → getD (write xs i ys) (i + j) 0 ≡ getD ys j 0
+unfolding write
+write-back xs i [] h j l = absurd (omega arith)
+write-back xs i (y ∷ ys) h zero l =
+    let e : i + 0 ≡ i = omega arith in
+    ap (λ (v : ℕ). getD (write (set xs i y) (i + 1) ys) v 0) e ∙ write-past (set xs i y) (i + 1) ys i (omega arith) ∙ getD-set-same xs i y 0 (omega arith)
+write-back xs i (y ∷ ys) h (suc j) l =
+    let e : i + suc j ≡ i + 1 + j = omega arith in
+    ap (λ (v : ℕ). getD (write (set xs i y) (i + 1) ys) v 0) e ∙ write-back (set xs i y) (i + 1) ys (omega (arith, length-set xs i y)) j (omega arith)
+
+-- Written from the first place on.
+back : (xs ys : List ℕ) → length ys ≤ length xs → (j : ℕ) → j < length ys → getD (write xs 0 ys) j 0 ≡ getD ys j 0
+back xs ys h j l = let e : j ≡ 0 + j = omega arith in ap (λ (v : ℕ). getD (write xs 0 ys) v 0) e ∙ write-back xs 0 ys (omega arith) j l
+
+-- An element behind the first of two lists.
+pub append-past : {A : Type 0} (xs ys : List A) (d : A) (j : ℕ) → getD (xs ++ ys) (length xs + j) d ≡ getD ys j d
+append-past [] ys d j = let e : 0 + j ≡ j = omega arith in ap (λ (v : ℕ). getD ys v d) e
+append-past (x ∷ xs) ys d j = let e : suc (length xs) + j ≡ suc (length xs + j) = omega arith in ap (λ (v : ℕ). getD (x ∷ (xs ++ ys)) v d) e ∙ append-past xs ys d j
+
+-- What takes four numbers each: number j of item k.
+module _ {A : Type 0} (spread : A → List ℕ) (four : (a : A) → length (spread a) ≡ 4) (d : A) where
+  spread-get : (items : List A) (k j : ℕ) → k < length items → j < 4 → getD (flatMap spread items) (4 * k + j) 0 ≡ getD (spread (getD items k d)) j 0
+  unfolding flatMap
+  spread-get [] k j l m = absurd (omega arith)
+  spread-get (a ∷ items) zero j l m =
+      let e : 4 * 0 + j ≡ j = omega arith in
+      ap (λ (v : ℕ). getD (spread a ++ flatMap spread items) v 0) e ∙ List·getD-append (spread a) (flatMap spread items) 0 j (omega (arith, four a))
+  spread-get (a ∷ items) (suc k) j l m =
+      let e : 4 * suc k + j ≡ length (spread a) + (4 * k + j) = omega (arith, four a) in
+      ap (λ (v : ℕ). getD (spread a ++ flatMap spread items) v 0) e ∙ append-past (spread a) (flatMap spread items) 0 (4 * k + j) ∙ spread-get items k j (omega arith) m
+
+  item-back : (xs : List ℕ) (items : List A) → 4 * length items ≤ length xs → (k j : ℕ) → k < length items → j < 4
+      → getD (write xs 0 (flatMap spread items)) (4 * k + j) 0 ≡ getD (spread (getD items k d)) j 0
+  item-back xs items h k j l m =
+      back xs (flatMap spread items) (omega (arith, spread-length spread four items)) (4 * k + j) (omega (arith, spread-length spread four items)) ∙ spread-get items k j l m
+
+  item-first : (xs : List ℕ) (items : List A) → 4 * length items ≤ length xs → (k : ℕ) → k < length items → getD (write xs 0 (flatMap spread items)) (4 * k) 0 ≡ getD (spread (getD items k d)) 0 0
+  item-first xs items h k l = let e : 4 * k ≡ 4 * k + 0 = omega arith in ap (λ (v : ℕ). getD (write xs 0 (flatMap spread items)) v 0) e ∙ item-back xs items h k 0 l (omega arith)
+
+-- The empty set, where a list of sets has no further one.
+abbrev pub noStates : States
+noStates = setOf (λ s. false)
+
+set-back : (xs : List ℕ) (items : List States) → length xs ≡ 40960 → length items ≤ 10240 → (k : ℕ) → k < length items → setAt (write xs 0 (flatMap words items)) k ≡ getD items k noStates
+unfolding setAt words if_then_else_
+set-back xs items h m k l =
+    let room : 4 * length items ≤ length xs = omega (arith, h) in
+    let e : ((j : ℕ) → j < 4 → getD (write xs 0 (flatMap words items)) (4 * k + j) 0 ≡ getD (words (getD items k noStates)) j 0) = λ j. item-back words words-four noStates xs items room k j l in
+    let e₀ = item-first words words-four noStates xs items room k l in
+    rw (lt-ltb k 10240 (omega arith)) (λ i. record { w0 = e₀ i; w1 = e 1 (omega arith) i; w2 = e 2 (omega arith) i; w3 = e 3 (omega arith) i })
+
+-- A node is read back from its numbers.
+node-cells : (x : Node) → nodeOf (getD (cells x) 0 0) (getD (cells x) 1 0) (getD (cells x) 2 0) (getD (cells x) 3 0) ≡ x
+unfolding nodeOf cells if_then_else_
+node-cells (Node.Act a) = refl
+node-cells (Node.Test k met unmet) = refl
+node-cells (Node.Jump skip) = refl
+node-cells (Node.End true) = refl
+node-cells (Node.End false) = refl
+
+node-back : (xs : List ℕ) (items : List Node) → length xs ≡ 8192 → length items ≤ 2048 → (k : ℕ) → k < length items → nodeAt (write xs 0 (flatMap cells items)) k ≡ getD items k (Node.End false)
+unfolding nodeAt if_then_else_
+node-back xs items h m k l =
+    let none = Node.End false in
+    let room : 4 * length items ≤ length xs = omega (arith, h) in
+    rw (
+      lt-ltb k 2048 (omega arith),
+      item-first cells cells-four none xs items room k l,
+      item-back cells cells-four none xs items room k 1 l (omega arith),
+      item-back cells cells-four none xs items room k 2 l (omega arith),
+      item-back cells cells-four none xs items room k 3 l (omega arith),
+    ) (node-cells (getD items k none))
+
+-- Actions, over a space of states.
+module _ (space : ℕ → Bool) where
+  -- How many sets stand before those of action a.
+  abbrev pub firstSet : (actions : List Action) (a : ℕ) → ℕ
+  firstSet actions a = length (flatMap (actionSets space) (take a actions))
+
+  -- The head of an action whose sets begin at set k.
+  abbrev pub headOf : (k : ℕ) → Action → Head
+  headOf k x = record { rows = k; replies = k + length (rows space x); count = replyCount x }
+
+  head-get : (k : ℕ) (actions : List Action) (a : ℕ) → a < length actions
+      → _≡_ {A = Head}
+      (record { rows = getD (headCells space k actions) (3 * a) 0; replies = getD (headCells space k actions) (3 * a + 1) 0; count = getD (headCells space k actions) (3 * a + 2) 0 })
+      (headOf (k + firstSet actions a) (getD actions a (probe [])))
+  unfolding headCells flatMap
+  head-get k [] a l = absurd (omega arith)
+  head-get k (x ∷ later) zero l =
+      let e : k ≡ k + 0 = omega arith in
+      let f : k + length (rows space x) ≡ k + 0 + length (rows space x) = omega arith in
+      λ i. record { rows = e i; replies = f i; count = replyCount x }
+  head-get k (x ∷ later) (suc a) l =
+      let k′ = k + length (actionSets space x) in
+      let rest = headCells space k′ later in
+      let y = getD later a (probe []) in
+      let h = head-get k′ later a (omega arith) in
+      let n : length (actionSets space x ++ flatMap (actionSets space) (take a later)) ≡ length (actionSets space x) + firstSet later a =
+      length-append (actionSets space x) (flatMap (actionSets space) (take a later)) in
+      let e₀ : 3 * suc a ≡ suc (suc (suc (3 * a))) = omega arith in
+      let e₁ : 3 * suc a + 1 ≡ suc (suc (suc (3 * a + 1))) = omega arith in
+      let e₂ : 3 * suc a + 2 ≡ suc (suc (suc (3 * a + 2))) = omega arith in
+      let cells = k ∷ (k + length (rows space x)) ∷ replyCount x ∷ rest in
+      let g₀ : getD cells (3 * suc a) 0 ≡ k + length (actionSets space x ++ flatMap (actionSets space) (take a later)) =
+      ap (λ (v : ℕ). getD cells v 0) e₀ ∙ ap (λ (z : Head). z .rows) h ∙ omega (arith, n) in
+      let g₁ : getD cells (3 * suc a + 1) 0 ≡ k + length (actionSets space x ++ flatMap (actionSets space) (take a later)) + length (rows space y) =
+      ap (λ (v : ℕ). getD cells v 0) e₁ ∙ ap (λ (z : Head). z .replies) h ∙ omega (arith, n) in
+      let g₂ : getD cells (3 * suc a + 2) 0 ≡ replyCount y = ap (λ (v : ℕ). getD cells v 0) e₂ ∙ ap (λ (z : Head). z .count) h in
+      λ i. record { rows = g₀ i; replies = g₁ i; count = g₂ i }
+
+  -- Set j of action a stands among those of all actions.
+  action-set : (actions : List Action) (a : ℕ) → a < length actions → (j : ℕ) → j < length (actionSets space (getD actions a (probe [])))
+      → (firstSet actions a + j < length (flatMap (actionSets space) actions))
+      × (getD (flatMap (actionSets space) actions) (firstSet actions a + j) noStates ≡ getD (actionSets space (getD actions a (probe []))) j noStates)
+  unfolding flatMap
+  action-set [] a l j m = absurd (omega arith)
+  action-set (x ∷ later) zero l j m =
+      let e : 0 + j ≡ j = omega arith in (
+        omega (arith, length-append (actionSets space x) (flatMap (actionSets space) later)),
+        ap (λ (v : ℕ). getD (actionSets space x ++ flatMap (actionSets space) later) v noStates) e ∙ List·getD-append (actionSets space x) (flatMap (actionSets space) later) noStates j m,
+      )
+  action-set (x ∷ later) (suc a) l j m =
+      let h = action-set later a (omega arith) j m in
+      let n = length-append (actionSets space x) (flatMap (actionSets space) (take a later)) in
+      let e : length (actionSets space x ++ flatMap (actionSets space) (take a later)) + j ≡ length (actionSets space x) + (firstSet later a + j) = omega (arith, n) in (
+        omega (arith, e, h .0, length-append (actionSets space x) (flatMap (actionSets space) later)),
+        ap (λ (v : ℕ). getD (actionSets space x ++ flatMap (actionSets space) later) v noStates) e
+            ∙ append-past (actionSets space x) (flatMap (actionSets space) later) noStates (firstSet later a + j) ∙ h .1,
+      )
+
+-- The memory holds a sheet's tables.
+pub record Tabled (sheet : Sheet) (heads nodes sets : List ℕ) : Type 0 where
+  pub head-is : (a : ℕ) → a < length (sheet .actions) → headAt heads a ≡ headOf (isState sheet) (firstSet (isState sheet) (sheet .actions) a) (actionOf sheet a)
+  pub node-is : (i : ℕ) → i < length (sheetNodes sheet) → nodeAt nodes i ≡ getD (sheetNodes sheet) i (Node.End false)
+  pub set-is : (k : ℕ) → k < length (sheetSets sheet) → setAt sets k ≡ getD (sheetSets sheet) k noStates
+
+-- A memory of the right size holds the tables of an accepted sheet after it was prepared.
+pub prepared-tabled : (bytes : List ℕ) (sheet : Sheet) → reading bytes ≡ accepted sheet → (heads nodes sets : List ℕ) → length heads ≡ 93 → length nodes ≡ 8192 → length sets ≡ 40960
+    → Tabled sheet (prepared sheetHeads (reading bytes) heads) (prepared nodeCells (reading bytes) nodes) (prepared setWords (reading bytes) sets)
+unfolding prepared sheetHeads nodeCells setWords headAt actionOf if_then_else_
+prepared-tabled bytes sheet e heads nodes sets h n s =
+    let room = accepted-room bytes sheet e in
+    let shape = accepted-shape bytes sheet e in
+    let space = isState sheet in
+    let cells = headCells space 0 (sheet .actions) in
+    let long = heads-length space 0 (sheet .actions) in
+    rw e (record {
+      head-is = λ a l.
+          let at : ((j : ℕ) → j < 3 → getD (write heads 0 cells) (3 * a + j) 0 ≡ getD cells (3 * a + j) 0) =
+          λ j m. back heads cells (omega (arith, long, h, shape .actions-most)) (3 * a + j) (omega (arith, long)) in
+          let first : getD (write heads 0 cells) (3 * a) 0 ≡ getD cells (3 * a) 0 = back heads cells (omega (arith, long, h, shape .actions-most)) (3 * a) (omega (arith, long)) in
+          let k = firstSet space (sheet .actions) a in
+          let none : 0 + k ≡ k = omega arith in
+          rw (lt-ltb a 31 (omega (arith, shape .actions-most)), first, at 1 (omega arith), at 2 (omega arith))
+          (head-get space 0 (sheet .actions) a l ∙ ap (λ (v : ℕ). headOf space v (actionOf sheet a)) none);
+      node-is = λ i l. node-back nodes (sheetNodes sheet) n (omega (arith, sheet-nodes-length sheet, room .nodes-room)) i l;
+      set-is = λ k l. set-back sets (sheetSets sheet) s (omega (arith, sheet-sets-length sheet, room .sets-room)) k l;
+    })
+
+-- Element j of what is made of numbers.
+pub made-get : {A : Type 0} (make : ℕ → A) (d : A) (a k j : ℕ) → j < k → getD (map make (upFrom a k)) j d ≡ make (a + j)
+unfolding upFrom
+made-get make d a zero j l = absurd (omega arith)
+made-get make d a (suc k) zero l = let e : a ≡ a + 0 = omega arith in ap make e
+made-get make d a (suc k) (suc j) l = let e : suc a + j ≡ a + suc j = omega arith in made-get make d (suc a) k j (omega arith) ∙ ap make e
+
+-- The sets of an action of the sheet.
+module _ (sheet : Sheet) (heads nodes sets : List ℕ) (tabled : Tabled sheet heads nodes sets) (a : ℕ) (l : a < length (sheet .actions)) where
+  abbrev space : ℕ → Bool
+  space = isState sheet
+
+  abbrev first : ℕ
+  first = firstSet space (sheet .actions) a
+
+  set-of : (j : ℕ) → j < length (actionSets space (actionOf sheet a)) → setAt sets (first + j) ≡ getD (actionSets space (actionOf sheet a)) j noStates
+  unfolding sheetSets sheetActionSets actionOf
+  set-of j m =
+      let h = action-set space (sheet .actions) a l j m in
+      tabled .set-is (first + j) (omega (arith, h .0, length-append (sheetActionSets sheet) (programSets (sheet .program) ++ atomSets (sheet .goal))))
+      ∙ List·getD-append (sheetActionSets sheet) (programSets (sheet .program) ++ atomSets (sheet .goal)) noStates (first + j) (h .0) ∙ h .1
+
+  -- Its rows, and the tables of its replies.
+  pub row-is : (j : ℕ) → j < length (rows space (actionOf sheet a)) → setAt sets (first + j) ≡ getD (rows space (actionOf sheet a)) j noStates
+  unfolding actionSets
+  row-is j m =
+      set-of j (omega (arith, length-append (rows space (actionOf sheet a)) (replyTables space (actionOf sheet a))))
+      ∙ List·getD-append (rows space (actionOf sheet a)) (replyTables space (actionOf sheet a)) noStates j m
+
+  pub reply-is : (r : ℕ) → r < replyCount (actionOf sheet a) → setAt sets (first + length (rows space (actionOf sheet a)) + r) ≡ setOf (λ t. answers (actionOf sheet a) r t)
+  unfolding actionSets replyTables
+  reply-is r m =
+      let x = actionOf sheet a in
+      let e : first + length (rows space x) + r ≡ first + (length (rows space x) + r) = omega arith in
+      let z : 0 + r ≡ r = omega arith in
+      ap (setAt sets) e ∙ set-of (length (rows space x) + r) (omega (arith, action-length space x))
+      ∙ append-past (rows space x) (replyTables space x) noStates r ∙ made-get (λ q. setOf (λ t. answers x q t)) noStates 0 (replyCount x) r m
+      ∙ ap (λ (v : ℕ). setOf (λ t. answers x v t)) z

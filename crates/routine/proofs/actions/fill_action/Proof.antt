@@ -1,0 +1,87 @@
+-- `routine::actions::fill_action` meets its contract: a change writes its rows, the set of all states and its head, a probe the tables of its replies and its head. Assumes nothing.
+use borrow.Author.Needs.{needs}
+use native.Mathlib.Omega.{arith}
+use Rattle.routine.proofs.ActionLaws.{change-found, probe-found, never-faulty, change-room, probe-room, change-filled, probe-filled}
+use Rattle.routine.proofs.actions.fill_action.Statement.{statement}
+use Rattle.routine.proofs.actions.fill_action.Tie as tie
+
+action-node-requires : tie.Need-action-node-requires
+action-node-requires c κs = search needs
+
+enum-known-r : tie.Need-enum-known-r
+enum-known-r c = search needs
+
+enum-known-p : tie.Need-enum-known-p
+enum-known-p c = search needs
+
+theory-end-requires : tie.Need-theory-end-requires
+theory-end-requires c κs = (c .before .before .before .before .before .pre .0, change-room _ _ _ _ _ _ (c .before .before .before .before .before .pre .0) (c .before .before .before .action-node .ensures) (c .before .before .before .before .before .pre .2) (c .before .p .given .1) .0)
+
+fill-rows-requires : tie.Need-fill-rows-requires
+fill-rows-requires c κs = let x = change-room _ _ _ _ _ _ (c .before .before .before .before .before .before .before .pre .0) (c .before .before .before .before .before .action-node .ensures) (c .before .before .before .before .before .before .before .pre .2) (c .before .before .before .p .given .1) in (c .before .before .before .before .before .before .before .pre .0, omega (arith, x .1), x .0)
+
+add-put-set : tie.Need-add-put-set
+add-put-set c = search needs
+
+uniform-requires : tie.Need-uniform-requires
+uniform-requires c κs = search needs
+
+put-set-requires : tie.Need-put-set-requires
+put-set-requires c κs = omega (arith, change-room _ _ _ _ _ _ (c .before .before .before .before .before .before .before .before .before .before .pre .0) (c .before .before .before .before .before .before .before .before .action-node .ensures) (c .before .before .before .before .before .before .before .before .before .before .pre .2) (c .before .before .before .before .before .before .p .given .1) .1)
+
+add-put-head : tie.Need-add-put-head
+add-put-head c = search needs
+
+put-head-requires : tie.Need-put-head-requires
+put-head-requires c κs = search needs
+
+add-t20 : tie.Need-add-t20
+add-t20 c = search needs
+
+enum-known-m : tie.Need-enum-known-m
+enum-known-m c = search needs
+
+fill-replies-requires : tie.Need-fill-replies-requires
+fill-replies-requires c κs = (c .before .before .before .before .before .before .pre .0, probe-room _ _ _ _ _ _ (c .before .before .before .before .before .before .pre .0) (c .before .before .before .before .action-node .ensures) (c .before .before .before .before .before .before .pre .2) (c .before .before .m .given .1))
+
+put-head-requires-2 : tie.Need-put-head-requires-2
+put-head-requires-2 c κs = let x = probe-room _ _ _ _ _ _ (c .before .before .before .before .before .before .before .before .pre .0) (c .before .before .before .before .before .before .action-node .ensures) (c .before .before .before .before .before .before .before .before .pre .2) (c .before .before .before .before .m .given .1) in (c .before .before .before .before .before .before .before .before .pre .1, omega (arith, x .room), omega (arith, x .room), omega (arith, x .room))
+
+add-t26 : tie.Need-add-t26
+add-t26 c = let x = probe-room _ _ _ _ _ _ (c .before .before .before .before .before .before .before .before .before .pre .0) (c .before .before .before .before .before .before .before .action-node .ensures) (c .before .before .before .before .before .before .before .before .before .pre .2) (c .before .before .before .before .before .m .given .1) in omega (arith, x .room)
+
+returns : tie.Need-returns
+returns c = λ x q h. never-faulty _ _ _ _ (c .before .before .before .before .before .pre .0) (c .before .before .before .action-node .ensures) (c .before .r .given .1) x q h
+
+returns-2 : tie.Need-returns-2
+returns-2 c = λ x q h.
+    let y = change-found _ _ _ _ (c .before .before .before .before .before .before .before .before .before .before .before .before .before .pre .0) (c .before .before .before .before .before .before .before .before .before .before .before .action-node .ensures) (c .before .before .before .before .before .before .before .before .before .p .given .1) x q h in
+    change-filled _ _ _ _ _ _ _ q x (y .0) _ _ _ (y .1) (c .before .before .before .before .before .before .before .theory-end .ensures (y .0) q (y .2)) (c .before .before .before .before .before .fill-rows .ensures (y .0) q (y .2)) (c .before .before .before .uniform .ensures) (c .before .before .put-set .ensures) (c .put-head .ensures)
+
+returns-3 : tie.Need-returns-3
+returns-3 c = λ x q h.
+    let y = probe-found _ _ _ _ (c .before .before .before .before .before .before .before .before .before .pre .0) (c .before .before .before .before .before .before .before .action-node .ensures) (c .before .before .before .before .before .m .given .1) x q h in
+    probe-filled _ _ _ _ _ _ _ q x (y .0) _ _ (y .1) (y .2) (c .before .before .fill-replies .ensures (y .0) q (y .3) (y .2)) (c .put-head2 .ensures)
+
+pub fill-action-spec : {M : Type 1} → statement M
+fill-action-spec =
+    tie.close
+    (tie.spec
+    action-node-requires
+    enum-known-r
+    enum-known-p
+    theory-end-requires
+    fill-rows-requires
+    add-put-set
+    uniform-requires
+    put-set-requires
+    add-put-head
+    put-head-requires
+    add-t20
+    enum-known-m
+    fill-replies-requires
+    put-head-requires-2
+    add-t26
+    returns
+    returns-2
+    returns-3)

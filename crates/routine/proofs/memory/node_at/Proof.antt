@@ -1,0 +1,126 @@
+-- `routine::memory::node_at` meets its contract: each return by the law of its case (proofs/MemoryLaws.antt), and each number fits 16 bits, as what is read does. Assumes nothing.
+use borrow.Author.Needs.{needs}
+use mathlib.Core.Path.{_∙_}
+use native.Mathlib.Omega.{arith}
+use Rattle.routine.specs.Memory.{Small}
+use Rattle.routine.proofs.MemoryLaws.{node-act, node-test, node-jump, node-end, node-in, node-past}
+use Rattle.routine.proofs.memory.node_at.Statement.{statement}
+use Rattle.routine.proofs.memory.node_at.Tie as tie
+
+returns : tie.Need-returns
+unfolding Small
+returns c = (node-past _ _ (c .if1 .taken), tt)
+
+mul-wide : tie.Need-mul-wide
+mul-wide c = search needs
+
+mul-wide-2 : tie.Need-mul-wide-2
+mul-wide-2 c = search needs
+
+element-copy-out-wide : tie.Need-element-copy-out-wide
+element-copy-out-wide c = search needs
+
+wide-requires : tie.Need-wide-requires
+wide-requires c κs = search needs
+
+mul-wide-3 : tie.Need-mul-wide-3
+mul-wide-3 c = search needs
+
+add-wide : tie.Need-add-wide
+add-wide c = search needs
+
+mul-wide-4 : tie.Need-mul-wide-4
+mul-wide-4 c = search needs
+
+element-copy-out-wide-2 : tie.Need-element-copy-out-wide-2
+element-copy-out-wide-2 c = search needs
+
+wide-requires-2 : tie.Need-wide-requires-2
+wide-requires-2 c κs = search needs
+
+mul-wide-5 : tie.Need-mul-wide-5
+mul-wide-5 c = search needs
+
+add-wide-2 : tie.Need-add-wide-2
+add-wide-2 c = search needs
+
+mul-wide-6 : tie.Need-mul-wide-6
+mul-wide-6 c = search needs
+
+element-copy-out-wide-3 : tie.Need-element-copy-out-wide-3
+element-copy-out-wide-3 c = search needs
+
+wide-requires-3 : tie.Need-wide-requires-3
+wide-requires-3 c κs = search needs
+
+mul-wide-7 : tie.Need-mul-wide-7
+mul-wide-7 c = search needs
+
+add-wide-3 : tie.Need-add-wide-3
+add-wide-3 c = search needs
+
+mul-wide-8 : tie.Need-mul-wide-8
+mul-wide-8 c = search needs
+
+element-copy-out-wide-4 : tie.Need-element-copy-out-wide-4
+element-copy-out-wide-4 c = search needs
+
+wide-requires-4 : tie.Need-wide-requires-4
+wide-requires-4 c κs = search needs
+
+returns-2 : tie.Need-returns-2
+unfolding Small
+returns-2 c = (
+  node-act _ _ _ _ (c .if2 .taken) ∙ node-in _ _ _ _ _ _ (omega arith) (c .before .before .before .before .before .before .before .wide .ensures .0) (c .before .before .before .before .before .wide2 .ensures .0) (c .before .before .before .wide3 .ensures .0) (c .before .wide4 .ensures .0),
+  c .before .before .before .before .before .wide2 .ensures .1,
+)
+
+returns-3 : tie.Need-returns-3
+unfolding Small
+returns-3 c = (
+  node-test _ _ _ _ (c .before .if2 .left) (c .if3 .taken) ∙ node-in _ _ _ _ _ _ (omega arith) (c .before .before .before .before .before .before .before .before .wide .ensures .0) (c .before .before .before .before .before .before .wide2 .ensures .0) (c .before .before .before .before .wide3 .ensures .0) (c .before .before .wide4 .ensures .0),
+  (c .before .before .before .before .before .before .wide2 .ensures .1, c .before .before .before .before .wide3 .ensures .1, c .before .before .wide4 .ensures .1),
+)
+
+returns-4 : tie.Need-returns-4
+unfolding Small
+returns-4 c = (
+  node-jump _ _ _ _ (c .before .before .if2 .left) (c .before .if3 .left) (c .if4 .taken) ∙ node-in _ _ _ _ _ _ (omega arith) (c .before .before .before .before .before .before .before .before .before .wide .ensures .0) (c .before .before .before .before .before .before .before .wide2 .ensures .0) (c .before .before .before .before .before .wide3 .ensures .0) (c .before .before .before .wide4 .ensures .0),
+  c .before .before .before .before .before .wide3 .ensures .1,
+)
+
+returns-5 : tie.Need-returns-5
+unfolding Small
+returns-5 c = (
+  node-end _ _ _ _ (c .before .before .if2 .left) (c .before .if3 .left) (c .if4 .left) ∙ node-in _ _ _ _ _ _ (omega arith) (c .before .before .before .before .before .before .before .before .before .wide .ensures .0) (c .before .before .before .before .before .before .before .wide2 .ensures .0) (c .before .before .before .before .before .wide3 .ensures .0) (c .before .before .before .wide4 .ensures .0),
+  tt,
+)
+
+pub node-at-spec : {M : Type 1} → statement M
+node-at-spec =
+    tie.close
+    (tie.spec
+    returns
+    mul-wide
+    mul-wide-2
+    element-copy-out-wide
+    wide-requires
+    mul-wide-3
+    add-wide
+    mul-wide-4
+    element-copy-out-wide-2
+    wide-requires-2
+    mul-wide-5
+    add-wide-2
+    mul-wide-6
+    element-copy-out-wide-3
+    wide-requires-3
+    mul-wide-7
+    add-wide-3
+    mul-wide-8
+    element-copy-out-wide-4
+    wide-requires-4
+    returns-2
+    returns-3
+    returns-4
+    returns-5)

@@ -1,0 +1,146 @@
+-- A sheet as tables: which sets of states, which nodes and which heads it has. Formulas are evaluated once, into sets.
+use Prim.Native.Nat.{ℕ, suc, _+_, _^_}
+use mathlib.Core.List.{List, [], _∷_, _++_, map, flatMap}
+use mathlib.Core.Bool.{Bool, true, false, _&&_}
+use lib.ListN.{length}
+use Rattle.lists.specs.Lists.{upFrom, below}
+use Rattle.states.specs.declared.States.{States}
+use Rattle.states.specs.Sets.{setOf}
+use Rattle.reader.specs.Syntax.{Objective, Epistemic, known, not-known, all-of, any-of, Program, end, act, branch, Action, change, probe, replyCount, Sheet}
+use Rattle.reader.specs.Truth.{isState, holds, truth, answers}
+use Rattle.reader.specs.Format.{Answer, accepted, refused}
+use Rattle.reader.specs.Answers.{numberOf}
+use Rattle.routine.specs.declared.memory.Node.{Node}
+use Rattle.routine.specs.declared.sheet.Prepared.{Prepared}
+use Rattle.routine.specs.Memory.{write, words, cells}
+
+-- Actions, over a space of states.
+module _ (space : ℕ → Bool) where
+  -- The rows of an action that changes facts: for each number s below 256 the states that may follow state s.
+  unfoldable pub rows : Action → List States
+  unfolding setOf upFrom truth
+  rows (change theory) = map (λ s. setOf (λ t. space s && space t && truth theory s t)) (below 256)
+  rows (probe replies) = []
+
+  -- The table of each reply: the states after the effect in which it is true.
+  unfoldable pub replyTables : Action → List States
+  unfolding setOf upFrom answers replyCount
+  replyTables a = map (λ r. setOf (λ t. answers a r t)) (below (replyCount a))
+
+  -- The sets of an action.
+  unfoldable pub actionSets : Action → List States
+  unfolding rows replyTables
+  actionSets a = rows a ++ replyTables a
+
+  -- The heads of actions whose sets stand one behind the other from set k on.
+  unfoldable pub headCells : (k : ℕ) → List Action → List ℕ
+  unfolding rows actionSets replyCount
+  headCells k [] = []
+  headCells k (a ∷ later) = k ∷ (k + length (rows a)) ∷ replyCount a ∷ headCells (k + length (actionSets a)) later
+
+-- The atoms of an epistemic formula: its parts "known" and "not known".
+unfoldable pub atoms : Epistemic → ℕ
+atoms (known f) = 1
+atoms (not-known f) = 1
+atoms (all-of f g) = atoms f + atoms g
+atoms (any-of f g) = atoms f + atoms g
+
+-- The sets of the atoms, left to right: the states in which the objective formula holds.
+unfoldable pub atomSets : Epistemic → List States
+unfolding setOf holds
+atomSets (known f) = setOf (λ s. holds f s) ∷ []
+atomSets (not-known f) = setOf (λ s. holds f s) ∷ []
+atomSets (all-of f g) = atomSets f ++ atomSets g
+atomSets (any-of f g) = atomSets f ++ atomSets g
+
+-- The tests of an epistemic formula whose sets stand from set k on: where it holds, `met` nodes behind its last are skipped, else `unmet`.
+unfoldable pub tests : Epistemic → (k met unmet : ℕ) → List Node
+unfolding atoms
+tests (known f) k met unmet = Node.Test k met unmet ∷ []
+tests (not-known f) k met unmet = Node.Test k unmet met ∷ []
+tests (all-of f g) k met unmet = tests f k 0 (atoms g + unmet) ++ tests g (k + atoms f) met unmet
+tests (any-of f g) k met unmet = tests f k (atoms g + met) 0 ++ tests g (k + atoms f) met unmet
+
+-- The nodes of a program, the atoms of its conditions, and their sets, in reading order.
+unfoldable pub size : Program → ℕ
+unfolding atoms
+size end = 0
+size (act a rest) = suc (size rest)
+size (branch f y z rest) = atoms f + (size y + suc (size z + size rest))
+
+unfoldable pub programAtoms : Program → ℕ
+unfolding atoms
+programAtoms end = 0
+programAtoms (act a rest) = programAtoms rest
+programAtoms (branch f y z rest) = atoms f + (programAtoms y + (programAtoms z + programAtoms rest))
+
+unfoldable pub programSets : Program → List States
+unfolding atomSets
+programSets end = []
+programSets (act a rest) = programSets rest
+programSets (branch f y z rest) = atomSets f ++ (programSets y ++ (programSets z ++ programSets rest))
+
+-- The nodes of a program whose sets stand from set k on. At its end it goes on with the node behind its last. A branch tests its condition: if it holds the
+-- then-program follows, behind whose end a jump leads over the else-program to the rest; else the then-program and this jump are skipped, and behind the
+-- else-program stands the rest. So every jump goes forward.
+unfoldable pub programNodes : Program → (k : ℕ) → List Node
+unfolding tests atoms size programAtoms
+programNodes end k = []
+programNodes (act a rest) k = Node.Act a ∷ programNodes rest k
+programNodes (branch f y z rest) k =
+    tests f k 0 (suc (size y))
+    ++ (programNodes y (k + atoms f)
+    ++ (Node.Jump (size z)
+    ∷ (programNodes z (k + atoms f + programAtoms y) ++ programNodes rest (k + atoms f + programAtoms y + programAtoms z))))
+
+-- The sets of a sheet: those of its actions, of its conditions and of its goal.
+unfoldable pub sheetActionSets : Sheet → List States
+unfolding flatMap actionSets isState
+sheetActionSets sheet = flatMap (actionSets (isState sheet)) (sheet .actions)
+
+unfoldable pub sheetSets : Sheet → List States
+unfolding sheetActionSets programSets atomSets
+sheetSets sheet = sheetActionSets sheet ++ (programSets (sheet .program) ++ atomSets (sheet .goal))
+
+-- The nodes of a sheet: its program, behind it the tests of its goal, and the two ends.
+unfoldable pub sheetNodes : Sheet → List Node
+unfolding sheetActionSets programNodes programAtoms tests
+sheetNodes sheet =
+    programNodes (sheet .program) (length (sheetActionSets sheet))
+    ++ (tests (sheet .goal) (length (sheetActionSets sheet) + programAtoms (sheet .program)) 0 1 ++ (Node.End true ∷ Node.End false ∷ []))
+
+-- The heads of a sheet's actions.
+unfoldable pub sheetHeads : Sheet → List ℕ
+unfolding headCells isState
+sheetHeads sheet = headCells (isState sheet) 0 (sheet .actions)
+
+-- The start set: the states in which the start formula holds.
+unfoldable pub sheetStart : Sheet → States
+unfolding setOf isState holds
+sheetStart sheet = setOf (λ s. isState sheet s && holds (sheet .start) s)
+
+-- What the answer means: the start set, or the number of the refusal.
+unfoldable pub preparedOf : Prepared → Answer States
+unfolding numberOf
+preparedOf (Prepared.Ready start) = accepted start
+preparedOf (Prepared.Refused r) = refused (numberOf r)
+
+unfoldable pub startOf : Answer Sheet → Answer States
+unfolding sheetStart
+startOf (accepted sheet) = accepted (sheetStart sheet)
+startOf (refused r) = refused r
+
+-- A memory after a sheet was prepared: what the sheet has is written from its first place on; a refused sheet leaves it as it was.
+unfoldable pub prepared : (Sheet → List ℕ) → Answer Sheet → (memory : List ℕ) → List ℕ
+unfolding write
+prepared has (accepted sheet) memory = write memory 0 (has sheet)
+prepared has (refused r) memory = memory
+
+-- What a sheet has in each memory.
+unfoldable pub setWords : Sheet → List ℕ
+unfolding flatMap words sheetSets
+setWords sheet = flatMap words (sheetSets sheet)
+
+unfoldable pub nodeCells : Sheet → List ℕ
+unfolding flatMap cells sheetNodes
+nodeCells sheet = flatMap cells (sheetNodes sheet)

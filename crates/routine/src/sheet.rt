@@ -1,0 +1,84 @@
+// A sheet as tables.
+use crate::actions::fill_actions;
+use crate::conditions::fill_tests;
+use crate::conditions::measure;
+use crate::limits::HEAD_CELLS;
+use crate::limits::NODE_CELLS;
+use crate::limits::SET_WORDS;
+use crate::memory::Node;
+use crate::memory::put_node;
+use crate::program::fill_program;
+use reader::Answer;
+use reader::DEPTH;
+use reader::Evaluated;
+use reader::HeaderRead;
+use reader::Refusal;
+use reader::View;
+use reader::header;
+use reader::objective_states;
+use reader::read;
+use states::States;
+ghost use mathlib.Core.Path.{_≡_};
+ghost use Rattle.reader.specs.Format.{reading};
+ghost use Rattle.routine.specs.Tables.{preparedOf, startOf, prepared as preparedBy, sheetHeads, nodeCells, setWords};
+ghost use Rattle.routine.specs.Filling.{Acceptable};
+
+// The start set of an accepted sheet, or the refusal.
+pub enum Prepared {
+    Ready(States),
+    Refused(Refusal),
+}
+
+// Writes the tables of an accepted sheet.
+fn fill(
+    s: &[u8],
+    heads: &mut [u16; HEAD_CELLS],
+    nodes: &mut [u16; NODE_CELLS],
+    sets: &mut [u64; SET_WORDS],
+) -> Prepared
+    requires { ⌜ Acceptable (now s) ⌝ }
+    ensures { λ r. ⌜ (preparedOf r ≡ startOf (reading (now (s .entry)))) × (now (heads .exit) ≡ preparedBy sheetHeads (reading (now (s .entry))) (now (heads .entry))) × (now (nodes .exit) ≡ preparedBy nodeCells (reading (now (s .entry))) (now (nodes .entry))) × (now (sets .exit) ≡ preparedBy setWords (reading (now (s .entry))) (now (sets .entry))) ⌝ }
+{
+    let HeaderRead::Counts(n, count) = header(s) else {
+        return Prepared::Refused(Refusal::Cut);
+    };
+    let space = States::all(n);
+    let actions = fill_actions(s, n, space, count, heads, sets);
+    let Evaluated::Holds(start, goal_at) = objective_states(s, actions.at, n, View::States) else {
+        return Prepared::Refused(Refusal::Cut);
+    };
+    let goal = measure(s, goal_at, n, DEPTH);
+    let program = fill_program(s, goal.at, n, 0, actions.set, nodes, sets);
+    fill_tests(
+        s,
+        goal_at,
+        n,
+        DEPTH,
+        program.node,
+        program.set,
+        0,
+        1,
+        nodes,
+        sets,
+    );
+    let ends = program.node + goal.atoms;
+    put_node(nodes, ends, Node::End(true));
+    put_node(nodes, ends + 1, Node::End(false));
+    Prepared::Ready(space.intersect(start))
+}
+
+// A sheet as tables in lent memory: where the sets of its actions stand, the nodes of its program and of its goal, and
+// its sets of states. A refused sheet leaves the memory as it was.
+pub fn prepare(
+    s: &[u8],
+    heads: &mut [u16; HEAD_CELLS],
+    nodes: &mut [u16; NODE_CELLS],
+    sets: &mut [u64; SET_WORDS],
+) -> Prepared
+    ensures { λ r. ⌜ (preparedOf r ≡ startOf (reading (now (s .entry)))) × (now (heads .exit) ≡ preparedBy sheetHeads (reading (now (s .entry))) (now (heads .entry))) × (now (nodes .exit) ≡ preparedBy nodeCells (reading (now (s .entry))) (now (nodes .entry))) × (now (sets .exit) ≡ preparedBy setWords (reading (now (s .entry))) (now (sets .entry))) ⌝ }
+{
+    match read(s) {
+        Answer::Refused(r) => Prepared::Refused(r),
+        Answer::Accepted => fill(s, heads, nodes, sets),
+    }
+}
