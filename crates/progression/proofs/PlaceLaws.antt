@@ -1,7 +1,7 @@
 -- Programs that stand among the nodes of a memory, and where they settle. Assumes nothing.
-use Prim.Native.Nat.{ℕ, zero, suc, _+_, _<_, _≤_}
+use Prim.Native.Nat.{ℕ, suc, _+_, _<_, _≤_}
 use mathlib.Core.Path.{_≡_, refl, ap, sym, subst, _∙_}
-use mathlib.Core.Logic.{_⊎_, inl, inr, ⊎-elim}
+use mathlib.Core.Logic.{_⊎_, inl, inr}
 use mathlib.Core.List.{List, [], _∷_, _++_, List·Memᴰ}
 use mathlib.Core.Bool.{Bool, true, false, not, _&&_, _||_}
 use native.Mathlib.Omega.{arith}
@@ -43,9 +43,6 @@ module _ {A : Type 0} (get : ℕ → A) (d : A) (i : ℕ) where
 
   row-first : (x : A) (xs : List A) → Row get d i (x ∷ xs) → get i ≡ x
   row-first x xs r = let e : i ≡ i + 0 = omega arith in ap get e ∙ r 0 (omega arith)
-
-  row-rest : (x : A) (xs : List A) → Row get d i (x ∷ xs) → Row get d (i + 1) xs
-  row-rest x xs r = row-right (x ∷ []) xs (i + 1) refl r
 
 -- What stands at each place of the memory: nodes and sets; the goal's tests begin at node `goal-at`; there are `count` actions.
 module _ (node : ℕ → Node) (table : ℕ → States) (goal-at count : ℕ) where

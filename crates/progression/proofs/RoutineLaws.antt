@@ -1,24 +1,23 @@
 -- The machine filled from an accepted sheet behaves as the sheet: after each history that follows the routine it stands where what is left of the routine stands,
 -- with the states possible after the history.
-use Prim.Native.Nat.{ℕ, zero, suc, _+_, _-_, _<_, _≤_}
+use Prim.Native.Nat.{ℕ, _+_, _<_, _≤_}
 use mathlib.Core.Path.{_≡_, refl, ap, sym, subst, _∙_}
 use mathlib.Core.List.{List, [], _∷_, _++_, map-append, List·Memᴰ}
 use mathlib.Core.Logic.{_⊎_, inl, inr}
 use mathlib.Core.Bool.{Bool, true, false}
 use native.Mathlib.Omega.{arith}
-use lib.ListN.{length, getD, length-append}
+use lib.ListN.{length}
 use Rattle.lists.specs.Lists.{every, nonempty}
 use Rattle.states.specs.declared.States.{States}
 use Rattle.states.specs.Sets.{member, setOf, members}
 use Rattle.states.proofs.SetLaws.{members-mem, mem-members}
 use Rattle.reader.specs.Syntax.{Epistemic, Program, end, act, branch, Sheet}
-use Rattle.reader.specs.Truth.{isState}
 use Rattle.reader.specs.Format.{accepted, reading}
 use Rattle.reader.proofs.SheetLaws.{accepted-shape}
 use Rattle.semantics.specs.Runs.{Entry, entry, History, extended, replies, IsRun, lastState, holdsAfter, occurs}
 use Rattle.semantics.specs.Routine.{Policy, done, perform, policy, routine, Follows}
 use Rattle.semantics.specs.Replies.{leftAfter}
-use Rattle.semantics.specs.Progression.{possible, satisfies, startSet, nextSet, setAfter}
+use Rattle.semantics.specs.Progression.{satisfies, startSet, nextSet, setAfter}
 use Rattle.semantics.proofs.ProgressionLaws.{possible-run, run-possible, holds-possible, occurs-possible, set-states}
 use Rattle.semantics.proofs.AcceptedLaws.{actions-most}
 use Rattle.semantics.proofs.ReplyLaws.{next-follows}
@@ -29,7 +28,7 @@ use Rattle.routine.proofs.SizeLaws.{nodes-length, program-sets-length}
 use Rattle.routine.proofs.RoomLaws.{accepted-room, sheet-nodes-length}
 use Rattle.routine.proofs.TableLaws.{noStates, Tabled}
 use Rattle.progression.specs.declared.place.Place.{Place}
-use Rattle.progression.specs.Machine.{knownBy, atNode, settledFrom, settled, stepped}
+use Rattle.progression.specs.Machine.{knownBy, atNode, settled, stepped}
 use Rattle.progression.proofs.MachineLaws.{run, run-on, settled-run, settled-forward}
 use Rattle.progression.proofs.PolicyLaws.{policies, allLeft, all-policy, all-begun, all-same, Begun}
 use Rattle.progression.proofs.PlaceLaws.{NodesAt, SetsAt, nodes-left, nodes-right, row-left, row-right, Settles, ProgramsAt, programs-settle, action-settles, goal-settles}

@@ -9,7 +9,7 @@ use lib.Pow.{pow-mono}
 use lib.Dec.{ltb, eqb}
 use lib.ListN.{length, getD}
 use borrow.Author.Tests.{lt-ltb, le-ltb, ltb-true, ltb-false, eqb-true, eq-eqb, ne-eqb}
-use Rattle.lists.specs.Lists.{if_then_else_, upFrom, below, exists, keep}
+use Rattle.lists.specs.Lists.{if_then_else_, below, exists, keep}
 use Rattle.lists.proofs.ListLaws.{two-cases, same-test, not-both, both-true, and-both, exists-mem, mem-exists, upFrom-mem, mem-upFrom, keep-mem, mem-keep}
 use Rattle.states.specs.declared.States.{States}
 use Rattle.states.specs.Sets.{member, setOf, members}
@@ -21,7 +21,7 @@ use Rattle.semantics.specs.Runs.{entry, History, step}
 use Rattle.semantics.specs.Progression.{possible, startSet, nextSet, setAfter}
 use Rattle.semantics.proofs.ProgressionLaws.{possible-keep, set-states}
 use Rattle.routine.specs.declared.memory.Head.{Head}
-use Rattle.routine.specs.Memory.{setAt, headAt}
+use Rattle.routine.specs.Memory.{setAt}
 use Rattle.routine.specs.Tables.{rows}
 use Rattle.routine.proofs.RoomLaws.{made-length}
 use Rattle.routine.proofs.TableLaws.{noStates, made-get, headOf, firstSet, Tabled, row-is, reply-is}

@@ -6,7 +6,7 @@ use mathlib.Core.List.{List, _++_, flatMap}
 use mathlib.Core.Bool.{false}
 use native.Mathlib.Omega.{arith}
 use lib.Dec.{eqb}
-use lib.ListN.{length, length-append}
+use lib.ListN.{length}
 use Rattle.states.specs.declared.States.{States}
 use Rattle.states.specs.Sets.{setOf}
 use Rattle.reader.specs.Syntax.{Objective, Epistemic, known, not-known, all-of, any-of}
@@ -15,11 +15,11 @@ use Rattle.reader.specs.Format.{Read, got, fault, mapped, deepest, objective, e
 use Rattle.reader.specs.Nodes.{EpistemicHead, known-head, not-known-head, all-of-head, any-of-head, epistemicHead, ofSheet}
 use Rattle.reader.specs.Answers.{inTheory, table}
 use Rattle.reader.specs.declared.formula.View.{View}
-use Rattle.reader.specs.Standing.{ObjectiveAt, EpistemicAt}
+use Rattle.reader.specs.Standing.{ObjectiveAt}
 use Rattle.reader.proofs.FormatLaws.{Finds, finds-give, finds-refuse, finds-if, finds-behind, finds-field}
 use Rattle.reader.proofs.FormulaLaws.{objective-levels}
 use Rattle.reader.proofs.NodeLaws.{sheet-short, known-first, not-known-first, all-of-first, any-of-first}
-use Rattle.reader.proofs.StandingLaws.{objective-inside, epistemic-inside, standing-epistemic, standing-evaluated}
+use Rattle.reader.proofs.StandingLaws.{epistemic-inside, standing-epistemic, standing-evaluated}
 use Rattle.routine.specs.declared.conditions.Extent.{Extent}
 use Rattle.routine.specs.Memory.{write, words, cells}
 use Rattle.routine.specs.Tables.{atoms, atomSets, tests}

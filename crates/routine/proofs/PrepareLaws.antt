@@ -6,7 +6,7 @@ use mathlib.Core.Bool.{Bool, true, false, _&&_}
 use native.Mathlib.Omega.{arith}
 use lib.Dec.{ltb}
 use lib.ListN.{length}
-use Rattle.lists.specs.Lists.{upFrom, below}
+use Rattle.lists.specs.Lists.{upFrom}
 use Rattle.states.specs.declared.States.{States}
 use Rattle.states.specs.Sets.{member, setOf}
 use Rattle.states.proofs.SetLaws.{member-setOf, set-cong}
@@ -53,7 +53,7 @@ module _ (p q : ℕ → Bool) (same : (s : ℕ) → s < 256 → p s ≡ q s) whe
 
   sets-same : (a : Action) → actionSets p a ≡ actionSets q a
   unfolding actionSets replyTables
-  sets-same a = ap (λ (us : List States). us ++ replyTables q a) (rows-same a)
+  sets-same a = ap (λ (us : List States). us ++ replyTables a) (rows-same a)
 
   all-same : (actions : List Action) → flatMap (actionSets p) actions ≡ flatMap (actionSets q) actions
   unfolding flatMap

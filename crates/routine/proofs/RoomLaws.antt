@@ -1,17 +1,15 @@
 -- How many sets and nodes a sheet has, and that those of an accepted sheet have room in the memory.
-use Prim.Native.Nat.{ℕ, zero, suc, _+_, _*_, _<_, _≤_}
-use mathlib.Core.Path.{_≡_, refl, ap, sym, _∙_}
+use Prim.Native.Nat.{ℕ, zero, suc, _+_, _*_, _≤_}
+use mathlib.Core.Path.{_≡_, refl, ap, _∙_}
 use mathlib.Core.List.{List, [], _∷_, _++_, map, flatMap, List·Memᴰ, List·Memᴰ·head, List·Memᴰ·tail}
 use mathlib.Core.Bool.{Bool, true, false, _&&_}
 use native.Mathlib.Omega.{arith}
 use lib.ListN.{length, length-append}
 use Rattle.lists.specs.Lists.{upFrom}
-use Rattle.reader.specs.Syntax.{Epistemic, known, not-known, all-of, any-of, Program, end, act, branch, actionNodes, branchNodes, Action, change, probe, replyCount, Sheet}
+use Rattle.reader.specs.Syntax.{Action, change, probe, replyCount, Sheet}
 use Rattle.states.specs.Sets.{setOf}
 use Rattle.reader.specs.Truth.{isState, truth, answers}
 use Rattle.reader.specs.Format.{accepted, reading}
-use Rattle.reader.specs.Standing.{EpistemicAt, ProgramAt}
-use Rattle.reader.proofs.FormulaLaws.{objective-onward}
 use Rattle.reader.proofs.SheetLaws.{FewReplies, accepted-shape}
 use Rattle.reader.proofs.StandingLaws.{accepted-standing}
 use Rattle.routine.proofs.SizeLaws.{tests-length, atom-sets-length, nodes-length, program-sets-length, size-nodes, atoms-bits, program-bits}
@@ -24,6 +22,11 @@ unfolding upFrom
 made-length make a zero = refl
 made-length make a (suc k) = ap suc (made-length make (suc a) k)
 
+-- A table for each reply.
+replies-length : (a : Action) → length (replyTables a) ≡ replyCount a
+unfolding replyTables
+replies-length a = made-length (λ r. setOf (λ t. answers a r t)) 0 (replyCount a)
+
 -- An action has at most 264 sets: 256 rows and 8 replies.
 module _ (space : ℕ → Bool) where
   pub rows-most : (a : Action) → length (rows space a) ≤ 256
@@ -31,13 +34,9 @@ module _ (space : ℕ → Bool) where
   rows-most (change f) = omega (arith, made-length (λ s. setOf (λ t. space s && space t && truth f s t)) 0 256)
   rows-most (probe fs) = omega arith
 
-  pub replies-length : (a : Action) → length (replyTables space a) ≡ replyCount a
-  unfolding replyTables
-  replies-length a = made-length (λ r. setOf (λ t. answers a r t)) 0 (replyCount a)
-
   pub action-length : (a : Action) → length (actionSets space a) ≡ length (rows space a) + replyCount a
   unfolding actionSets
-  action-length a = length-append (rows space a) (replyTables space a) ∙ ap (λ (k : ℕ). length (rows space a) + k) (replies-length a)
+  action-length a = length-append (rows space a) (replyTables a) ∙ ap (λ (k : ℕ). length (rows space a) + k) (replies-length a)
 
   actions-most : (actions : List Action) → ((a : Action) → List·Memᴰ a actions → FewReplies a) → length (flatMap (actionSets space) actions) ≤ 264 * length actions
   unfolding flatMap

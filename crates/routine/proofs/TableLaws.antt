@@ -1,10 +1,9 @@
 -- What stands in the memory after a sheet was prepared: its sets, its nodes and the heads of its actions.
 use Prim.Native.Nat.{ℕ, zero, suc, _+_, _*_, _<_, _≤_}
-use mathlib.Core.Path.{_≡_, refl, ap, sym, _∙_}
+use mathlib.Core.Path.{_≡_, refl, ap, _∙_}
 use mathlib.Core.List.{List, [], _∷_, _++_, map, flatMap}
 use mathlib.Core.Bool.{Bool, true, false}
 use native.Mathlib.Omega.{arith}
-use lib.Dec.{ltb, eqb}
 use lib.ListN.{length, getD, set, take, length-set, length-append, List·getD-append}
 use lib.Seq.{getD-set-same, getD-set-other}
 use borrow.Author.Tests.{lt-ltb}
@@ -13,7 +12,7 @@ use Rattle.states.specs.declared.States.{States}
 use Rattle.states.specs.Sets.{setOf}
 use Rattle.reader.specs.Syntax.{Action, probe, replyCount, Sheet, actionOf}
 use Rattle.reader.specs.Truth.{isState, answers}
-use Rattle.reader.specs.Format.{Answer, accepted, reading}
+use Rattle.reader.specs.Format.{accepted, reading}
 use Rattle.reader.proofs.SheetLaws.{accepted-shape}
 use Rattle.routine.specs.declared.memory.Node.{Node}
 use Rattle.routine.specs.declared.memory.Head.{Head}
@@ -214,8 +213,8 @@ module _ (sheet : Sheet) (heads nodes sets : List ℕ) (tabled : Tabled sheet he
   pub row-is : (j : ℕ) → j < length (rows space (actionOf sheet a)) → setAt sets (first + j) ≡ getD (rows space (actionOf sheet a)) j noStates
   unfolding actionSets
   row-is j m =
-      set-of j (omega (arith, length-append (rows space (actionOf sheet a)) (replyTables space (actionOf sheet a))))
-      ∙ List·getD-append (rows space (actionOf sheet a)) (replyTables space (actionOf sheet a)) noStates j m
+      set-of j (omega (arith, length-append (rows space (actionOf sheet a)) (replyTables (actionOf sheet a))))
+      ∙ List·getD-append (rows space (actionOf sheet a)) (replyTables (actionOf sheet a)) noStates j m
 
   pub reply-is : (r : ℕ) → r < replyCount (actionOf sheet a) → setAt sets (first + length (rows space (actionOf sheet a)) + r) ≡ setOf (λ t. answers (actionOf sheet a) r t)
   unfolding actionSets replyTables
@@ -224,5 +223,5 @@ module _ (sheet : Sheet) (heads nodes sets : List ℕ) (tabled : Tabled sheet he
       let e : first + length (rows space x) + r ≡ first + (length (rows space x) + r) = omega arith in
       let z : 0 + r ≡ r = omega arith in
       ap (setAt sets) e ∙ set-of (length (rows space x) + r) (omega (arith, action-length space x))
-      ∙ append-past (rows space x) (replyTables space x) noStates r ∙ made-get (λ q. setOf (λ t. answers x q t)) noStates 0 (replyCount x) r m
+      ∙ append-past (rows space x) (replyTables x) noStates r ∙ made-get (λ q. setOf (λ t. answers x q t)) noStates 0 (replyCount x) r m
       ∙ ap (λ (v : ℕ). setOf (λ t. answers x v t)) z

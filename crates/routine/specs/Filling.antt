@@ -1,7 +1,7 @@
 -- What the parts of `prepare` do: inner contracts, over parts of a sheet that stand in its bytes (reader/specs/Standing.antt).
-use Prim.Native.Nat.{ℕ, _+_, _*_, _≤_, _<_}
+use Prim.Native.Nat.{ℕ, _+_, _*_, _≤_}
 use mathlib.Core.List.{List, [], _∷_, flatMap, map}
-use mathlib.Core.Bool.{Bool, true, false, _&&_}
+use mathlib.Core.Bool.{true, false, _&&_}
 use mathlib.Core.Path.{_≡_}
 use lib.ListN.{length}
 use Rattle.states.specs.declared.States.{States}

@@ -1,7 +1,7 @@
 -- What stands in the memory of a routine's tables, whatever numbers are in it: sets of states, nodes of the program, heads of actions.
 use Prim.Native.Nat.{ℕ, _+_, _*_, _<_}
 use mathlib.Core.List.{List, [], _∷_}
-use mathlib.Core.Bool.{Bool, true, false}
+use mathlib.Core.Bool.{true, false}
 use lib.Dec.{ltb, eqb}
 use lib.ListN.{getD, set}
 use Rattle.lists.specs.Lists.{if_then_else_}

@@ -1,12 +1,14 @@
 -- A sheet as tables: which sets of states, which nodes and which heads it has. Formulas are evaluated once, into sets.
-use Prim.Native.Nat.{ℕ, suc, _+_, _^_}
+use Prim.Native.Nat.{ℕ, suc, _+_}
+use mathlib.Core.Path.{_≡_, refl}
 use mathlib.Core.List.{List, [], _∷_, _++_, map, flatMap}
 use mathlib.Core.Bool.{Bool, true, false, _&&_}
-use lib.ListN.{length}
+use lib.Dec.{ltb}
+use lib.ListN.{length, take}
 use Rattle.lists.specs.Lists.{upFrom, below}
 use Rattle.states.specs.declared.States.{States}
 use Rattle.states.specs.Sets.{setOf}
-use Rattle.reader.specs.Syntax.{Objective, Epistemic, known, not-known, all-of, any-of, Program, end, act, branch, Action, change, probe, replyCount, Sheet}
+use Rattle.reader.specs.Syntax.{top, fact, negation, Epistemic, known, not-known, all-of, any-of, Program, end, act, branch, Action, change, probe, replyCount, Sheet}
 use Rattle.reader.specs.Truth.{isState, holds, truth, answers}
 use Rattle.reader.specs.Format.{Answer, accepted, refused}
 use Rattle.reader.specs.Answers.{numberOf}
@@ -14,18 +16,18 @@ use Rattle.routine.specs.declared.memory.Node.{Node}
 use Rattle.routine.specs.declared.sheet.Prepared.{Prepared}
 use Rattle.routine.specs.Memory.{write, words, cells}
 
--- Actions, over a space of states.
+-- The table of each reply: the states after the effect in which it is true.
+unfoldable pub replyTables : Action → List States
+unfolding setOf upFrom answers replyCount
+replyTables a = map (λ r. setOf (λ t. answers a r t)) (below (replyCount a))
+
+-- The other tables of actions, over a space of states.
 module _ (space : ℕ → Bool) where
   -- The rows of an action that changes facts: for each number s below 256 the states that may follow state s.
   unfoldable pub rows : Action → List States
   unfolding setOf upFrom truth
   rows (change theory) = map (λ s. setOf (λ t. space s && space t && truth theory s t)) (below 256)
   rows (probe replies) = []
-
-  -- The table of each reply: the states after the effect in which it is true.
-  unfoldable pub replyTables : Action → List States
-  unfolding setOf upFrom answers replyCount
-  replyTables a = map (λ r. setOf (λ t. answers a r t)) (below (replyCount a))
 
   -- The sets of an action.
   unfoldable pub actionSets : Action → List States
@@ -144,3 +146,29 @@ setWords sheet = flatMap words (sheetSets sheet)
 unfoldable pub nodeCells : Sheet → List ℕ
 unfolding flatMap cells sheetNodes
 nodeCells sheet = flatMap cells (sheetNodes sheet)
+
+-- Examples, evaluated.
+-- A set of states below 64, by its word.
+abbrev few : ℕ → States
+few w = record { w0 = w; w1 = 0; w2 = 0; w3 = 0 }
+
+-- One fact and a theory that mentions no new fact: each state may follow each. Behind the last state a row is empty.
+free-rows : take 3 (rows (λ s. ltb s 2) (change top)) ≡ few 3 ∷ few 3 ∷ few 0 ∷ []
+unfolding rows
+free-rows = refl
+
+-- A change has 256 rows and the one reply 0; a probe has a table for each reply. So the heads.
+two-heads : headCells (λ s. ltb s 2) 0 (change top ∷ probe (fact 0 ∷ negation (fact 0) ∷ []) ∷ []) ≡ 0 ∷ 256 ∷ 1 ∷ 257 ∷ 257 ∷ 2 ∷ []
+unfolding headCells
+two-heads = refl
+
+-- A branch: its condition skips the then-program and the jump behind it; the jump skips the else-program, and the rest stands behind that.
+branch-nodes : programNodes (branch (known (fact 0)) (act 0 end) (act 1 (act 2 end)) (act 3 end)) 5
+    ≡ Node.Test 5 0 2 ∷ Node.Act 0 ∷ Node.Jump 2 ∷ Node.Act 1 ∷ Node.Act 2 ∷ Node.Act 3 ∷ []
+unfolding programNodes
+branch-nodes = refl
+
+-- A condition with both connectives: each test skips what no longer decides.
+condition-tests : tests (all-of (known (fact 0)) (any-of (not-known (fact 1)) (known (fact 2)))) 0 0 7 ≡ Node.Test 0 0 9 ∷ Node.Test 1 0 1 ∷ Node.Test 2 0 7 ∷ []
+unfolding tests
+condition-tests = refl

@@ -10,7 +10,6 @@ use reader::View;
 use reader::action_node;
 use reader::objective_states;
 use states::States;
-ghost use mathlib.Core.Path.{_≡_};
 ghost use Prim.Native.Nat.{_+_, _≤_, _<_};
 ghost use lib.ListN.{length};
 ghost use Rattle.routine.specs.Filling.{Theory, TheoryEnds, RowIs, RowsFill, Replies, RepliesFill, ActionRoom, ActionFills, ActionsRoom, ActionsFill};

@@ -9,7 +9,6 @@ use reader::Evaluated;
 use reader::View;
 use reader::epistemic_node;
 use reader::objective_states;
-ghost use mathlib.Core.Path.{_≡_};
 ghost use Prim.Native.Nat.{_≤_, _<_};
 ghost use lib.ListN.{length};
 ghost use Rattle.routine.specs.Filling.{Atom, AtomMeasures, AtomFills, Formula, Measures, FormulaRoom, FormulaFills};

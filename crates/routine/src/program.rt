@@ -8,7 +8,6 @@ use crate::memory::put_node;
 use reader::DEPTH;
 use reader::ProgramNode;
 use reader::program_node;
-ghost use mathlib.Core.Path.{_≡_};
 ghost use Prim.Native.Nat.{_≤_};
 ghost use lib.ListN.{length};
 ghost use Rattle.routine.specs.Filling.{ProgramRoom, ProgramFills};
