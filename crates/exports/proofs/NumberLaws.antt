@@ -1,11 +1,44 @@
 -- Laws of answers as numbers. Assumes nothing.
-use mathlib.Core.Path.{_≡_, refl}
+use Prim.Native.Nat.{ℕ}
+use mathlib.Core.Path.{_≡_, refl, sym, ap, _∙_}
+use mathlib.Core.List.{List}
+use native.Mathlib.Omega.{arith}
+use Rattle.states.specs.declared.States.{States}
+use Rattle.reader.specs.Syntax.{Sheet}
 use Rattle.reader.specs.Format.{Answer, accepted, refused}
 use Rattle.reader.specs.Answers.{withoutSheet}
-use Rattle.exports.specs.Numbers.{numberFor}
+use Rattle.routine.specs.Memory.{write, words, setAt}
+use Rattle.routine.specs.Tables.{startOf, prepared}
+use Rattle.progression.specs.declared.place.Place.{Place}
+use Rattle.progression.specs.Machine.{stepped, settled}
+use Rattle.exports.specs.Numbers.{numberFor, startWords}
 
 -- An answer has the same number without its sheet.
 pub number-without : {A : Type 0} (a : Answer A) → numberFor (withoutSheet a) ≡ numberFor a
 unfolding withoutSheet numberFor
 number-without (accepted x) = refl
 number-without (refused r) = refl
+
+-- A refusal of the tables is that of the sheet, and leaves the memory of the start set as it was.
+pub tables-refused : (a : Answer Sheet) (k : ℕ) → refused k ≡ startOf a → (memory : List ℕ) → (k ≡ numberFor a) × (memory ≡ prepared startWords a memory)
+unfolding startOf numberFor prepared
+tables-refused (accepted sheet) k e memory = let w : _≡_ {A = ℕ} 0 1 = cc in absurd (omega arith)
+tables-refused (refused r) k e memory = (cc, refl)
+
+-- A start set is that of an accepted sheet, and its words are written.
+pub tables-ready : (a : Answer Sheet) (set : States) → accepted set ≡ startOf a → (memory after : List ℕ) → after ≡ write memory 0 (words set)
+    → (0 ≡ numberFor a) × (after ≡ prepared startWords a memory)
+unfolding startOf numberFor prepared startWords
+tables-ready (accepted sheet) set e memory after h = (refl, cc)
+tables-ready (refused r) set e memory after h = let w : _≡_ {A = ℕ} 0 1 = cc in absurd (omega arith)
+
+-- The words of a set that was lent are replaced by those after a step.
+pub step-written : (heads sets memory after : List ℕ) (action reply : ℕ) (before result : States) → before ≡ setAt memory 0 → result ≡ stepped heads sets before action reply
+    → after ≡ write memory 0 (words result) → after ≡ write memory 0 (words (stepped heads sets (setAt memory 0) action reply))
+step-written heads sets memory after action reply before result b r w =
+    w ∙ ap (λ (s : States). write memory 0 (words s)) (r ∙ ap (λ (s : States). stepped heads sets s action reply) b)
+
+-- The place where the program settles with a set that was lent.
+pub place-settled : (nodes sets memory : List ℕ) (at : ℕ) (set : States) (place told : Place) → set ≡ setAt memory 0 → told ≡ settled nodes sets set at → told ≡ place
+    → place ≡ settled nodes sets (setAt memory 0) at
+place-settled nodes sets memory at set place told s e t = sym t ∙ e ∙ ap (λ (u : States). settled nodes sets u at) s

@@ -1,5 +1,5 @@
 -- The tables as a machine, whatever numbers are in the memory: where the program settles, and one step of the set of possible states.
-use Prim.Native.Nat.{ℕ, zero, suc, _+_}
+use Prim.Native.Nat.{ℕ, zero, suc, _+_, _<_}
 use mathlib.Core.Path.{_≡_, refl}
 use mathlib.Core.List.{List, [], _∷_}
 use mathlib.Core.Bool.{Bool, true, false, _&&_}
@@ -38,6 +38,11 @@ settledFrom nodes isKnown (suc left) zero i = atNode isKnown (nodeAt nodes i) i 
 unfoldable pub settled : (nodes sets : List ℕ) → States → (at : ℕ) → Place
 unfolding settledFrom knownBy
 settled nodes sets set at = settledFrom nodes (knownBy sets set) nodeMost at 0
+
+-- An action node where it settles is one of the memory, and its action fits 16 bits.
+unfoldable pub Inside : Place → Type 0
+Inside (Place.Act i a) = (i < nodeMost) × (a < 65536)
+Inside (Place.End holds) = Unit {0}
 
 -- The states that are in set `first` + s for some state s of a set. (2013: all next states are gathered.)
 unfoldable pub gathered : (sets : List ℕ) (first : ℕ) → States → States

@@ -7,7 +7,7 @@ use routine::node_at;
 use routine::set_at;
 use states::States;
 ghost use mathlib.Core.Path.{_≡_};
-ghost use Rattle.progression.specs.Machine.{knownBy, settled};
+ghost use Rattle.progression.specs.Machine.{knownBy, settled, Inside};
 
 // An action node with its action, or the end and whether the goal holds there.
 pub enum Place {
@@ -24,7 +24,7 @@ pub fn known(sets: &[u64; SET_WORDS], k: usize, set: States) -> bool
 
 // The place that the program reaches from node `at` on, where the states of a set are possible.
 pub fn settle(nodes: &[u16; NODE_CELLS], sets: &[u64; SET_WORDS], set: States, at: usize) -> Place
-    ensures { λ r. ⌜ r ≡ settled (now (nodes .entry)) (now (sets .entry)) set at ⌝ }
+    ensures { λ r. ⌜ (r ≡ settled (now (nodes .entry)) (now (sets .entry)) set at) × Inside r ⌝ }
 {
     let mut i = at;
     while i < NODES {

@@ -1,55 +1,313 @@
-//! Times the proved reader beside the Rust reader, on the same sheets in the same run.
+//! Times the proved functions beside Rust, on the same sheets in the same run.
 //!
-//! Each line gives the sheet's size, the answer, the least time of a call in
-//! nanoseconds for both, and their quotient. Run it in release mode.
+//! Each line gives the least time of a call in nanoseconds for each, and the
+//! quotients. Run it in release mode.
 
 use std::hint::black_box;
 use std::time::{Duration, Instant};
 
+use linked::{plain, Place, Tables, Words};
 use recovery::encode::encode;
 use recovery::random::{good, Random, Size};
+use recovery::read::read;
 use recovery::sheet::{Action, Epistemic, Objective, Program, Sheet, MAX_BYTES};
+use recovery::states::{State, StateSet};
+use recovery::step::{gather, keep};
+use recovery::truth::holds_knowing;
 
 fn main() {
+    println!("reading");
     println!(
         "{:<66} {:>5} {:>6} {:>11} {:>11} {:>7}",
         "sheet", "bytes", "answer", "proved ns", "Rust ns", "ratio"
     );
     for (name, bytes) in sheets() {
-        row(&name, &bytes);
+        reading_row(&name, &bytes);
     }
+    println!("\nreading and tables");
+    println!(
+        "{:<66} {:>5} {:>6} {:>11} {:>11} {:>7}",
+        "sheet", "bytes", "sets", "proved ns", "Rust ns", "ratio"
+    );
+    for (name, bytes) in prepared_sheets() {
+        prepare_row(&name, &bytes);
+    }
+    println!("\nsteps and places, 8 facts");
+    println!(
+        "{:<28} {:>6} {:>9} {:>13} {:>15} {:>13} {:>15}",
+        "step",
+        "states",
+        "proved ns",
+        "Rust data ns",
+        "Rust tables ns",
+        "ratio to data",
+        "ratio to tables"
+    );
+    step_rows();
+    settle_rows();
 }
 
-fn row(name: &str, bytes: &[u8]) {
+fn reading_row(name: &str, bytes: &[u8]) {
     let answer = linked::read(bytes);
-    let expected = recovery::read::read(bytes).map_or_else(|refusal| refusal.number(), |_| 0);
+    let expected = read(bytes).map_or_else(|refusal| refusal.number(), |_| 0);
     assert_eq!(answer, expected);
     let mut proved = f64::INFINITY;
-    let mut plain = f64::INFINITY;
+    let mut rust = f64::INFINITY;
     for _ in 0..7 {
-        proved = proved.min(time(|| u64::from(linked::read(black_box(bytes)))));
-        plain = plain.min(time(|| {
-            u64::from(recovery::read::read(black_box(bytes)).is_ok())
-        }));
+        proved = proved.min(time(|| linked::read(black_box(bytes))));
+        rust = rust.min(time(|| read(black_box(bytes)).is_ok()));
     }
     println!(
-        "{name:<66} {:>5} {answer:>6} {proved:>11.0} {plain:>11.0} {:>7.3}",
+        "{name:<66} {:>5} {answer:>6} {proved:>11.0} {rust:>11.0} {:>7.3}",
         bytes.len(),
-        proved / plain
+        proved / rust
     );
 }
 
-/// Nanoseconds of one call, over at least 30 milliseconds.
-fn time(mut call: impl FnMut() -> u64) -> f64 {
-    let start = Instant::now();
-    let mut calls = 0;
-    while start.elapsed() < Duration::from_millis(30) {
-        for _ in 0..4 {
-            black_box(call());
-            calls += 1;
+fn prepare_row(name: &str, bytes: &[u8]) {
+    let (mut tables, mut start) = (Tables::zeroed(), [0; 4]);
+    assert_eq!(linked::prepare(bytes, &mut tables, &mut start), 0);
+    let mut expected = Tables::zeroed();
+    assert_eq!(plain::prepare(&read(bytes).unwrap(), &mut expected), start);
+    assert!(tables == expected);
+    let sets = 1 + last_set(&tables);
+    let mut proved = f64::INFINITY;
+    let mut rust = f64::INFINITY;
+    for _ in 0..7 {
+        proved = proved.min(time(|| {
+            u64::from(linked::prepare(black_box(bytes), &mut tables, &mut start))
+        }));
+        rust = rust.min(time(|| {
+            let sheet = read(black_box(bytes)).unwrap();
+            plain::prepare(&sheet, &mut expected)[0]
+        }));
+    }
+    println!(
+        "{name:<66} {:>5} {sets:>6} {proved:>11.0} {rust:>11.0} {:>7.3}",
+        bytes.len(),
+        proved / rust
+    );
+}
+
+/// The last set that a test of the goal names: the goal's sets are the last.
+fn last_set(tables: &Tables) -> u16 {
+    let tests = tables.nodes.chunks(4).filter(|node| node[0] == 1);
+    tests.map(|node| node[1]).max().unwrap()
+}
+
+/// A sheet of 8 facts: a probe, a change, a program of one branch, and a goal of so many atoms.
+fn stepped_sheet(atoms: usize) -> Sheet {
+    let known = |i: u8| {
+        let fact = Objective::Fact(i % 8);
+        Epistemic::Known(fact.clone().or(fact.negate()))
+    };
+    let probe = Action::Probe(vec![Objective::Fact(0), Objective::Fact(0).negate()]);
+    Sheet {
+        edition: 1,
+        facts: 8,
+        actions: vec![probe, Action::Change(stays(8))],
+        start: Objective::True,
+        goal: balanced(&(0..atoms as u8).map(known).collect::<Vec<_>>()),
+        program: Program::branch(
+            known(0),
+            Program::act(0, Program::End),
+            Program::act(1, Program::End),
+            Program::End,
+        ),
+    }
+}
+
+fn tables_of(sheet: &Sheet) -> Tables {
+    let mut tables = Tables::zeroed();
+    let answer = linked::prepare(&encode(sheet), &mut tables, &mut [0; 4]);
+    assert_eq!(answer, 0);
+    tables
+}
+
+/// So many states, evenly spread.
+fn spread(count: usize) -> (StateSet, Words) {
+    let members = || (0..count).map(|i| (i * (256 / count)) as State);
+    (members().collect(), plain::words(members()))
+}
+
+fn step_rows() {
+    let sheet = stepped_sheet(1);
+    let tables = tables_of(&sheet);
+    for (name, number) in [("a probe", 0), ("a change", 1)] {
+        let action = &sheet.actions[number];
+        for count in [1, 16, 128, 256] {
+            let (possible, before) = spread(count);
+            // The probe's second reply: all the sets have a state without fact 0.
+            let reply = action.reply_count() - 1;
+            let proved = || {
+                let mut set = black_box(before);
+                linked::step(black_box(&tables), &mut set, number, usize::from(reply));
+                set
+            };
+            let data = || {
+                let gathered = gather(&sheet, action, black_box(&possible));
+                keep(action, reply, &gathered)
+            };
+            let rust = || {
+                let mut set = black_box(before);
+                plain::step(black_box(&tables), &mut set, number, usize::from(reply));
+                set
+            };
+            assert_eq!(proved(), plain::words(data().iter()));
+            assert_eq!(proved(), rust());
+            assert!(!data().is_empty());
+            step_row(name, count, proved, data, rust);
         }
     }
+}
+
+fn settle_rows() {
+    let atoms = 30;
+    let sheet = stepped_sheet(atoms);
+    let tables = tables_of(&sheet);
+    let Program::Branch { condition, .. } = &sheet.program else {
+        unreachable!()
+    };
+    // The branch's test, an action, a jump, an action; then the tests of the goal.
+    let places = [
+        ("a branch of one atom", 0, condition),
+        ("a goal of 30 atoms", 4, &sheet.goal),
+    ];
+    for (name, at, formula) in places {
+        for count in [1, 16, 128, 256] {
+            let (possible, set) = spread(count);
+            let proved = || linked::settle(black_box(&tables), black_box(&set), at);
+            let data = || holds_knowing(black_box(formula), black_box(&possible));
+            let rust = || plain::settle(black_box(&tables), black_box(&set), at);
+            assert!(data());
+            let expected = match at {
+                0 => Place::Act { node: 1, action: 0 },
+                _ => Place::End { goal: true },
+            };
+            assert_eq!(proved(), expected);
+            assert_eq!(rust(), expected);
+            step_row(name, count, proved, data, rust);
+        }
+    }
+}
+
+fn step_row<P, D, R>(
+    name: &str,
+    count: usize,
+    proved: impl Fn() -> P,
+    data: impl Fn() -> D,
+    rust: impl Fn() -> R,
+) {
+    let mut least = [f64::INFINITY; 3];
+    for _ in 0..7 {
+        least[0] = least[0].min(time(&proved));
+        least[1] = least[1].min(time(&data));
+        least[2] = least[2].min(time(&rust));
+    }
+    let [proved, data, rust] = least;
+    println!(
+        "{name:<28} {count:>6} {proved:>9.1} {data:>13.1} {rust:>15.1} {:>13.4} {:>15.2}",
+        proved / data,
+        proved / rust
+    );
+}
+
+/// Nanoseconds of one call, over at least 30 milliseconds; the clock is read
+/// after twice as many calls each time, so that it costs nothing.
+fn time<T>(mut call: impl FnMut() -> T) -> f64 {
+    let start = Instant::now();
+    let mut calls = 0;
+    let mut more = 1;
+    while start.elapsed() < Duration::from_millis(30) {
+        for _ in 0..more {
+            black_box(call());
+        }
+        calls += more;
+        more *= 2;
+    }
     start.elapsed().as_nanos() as f64 / f64::from(calls)
+}
+
+fn prepared_sheets() -> Vec<(String, Vec<u8>)> {
+    let mut random = Random::new(8);
+    let routines = (0..20).map(|_| encode(&good(&mut random, &Size::LARGE)));
+    let sheets = [
+        (
+            "sample 1",
+            vec![0x11, 0x0c, 0x90, 0x88, 0x1c, 0x40, 0x88, 0x20, 0x00],
+        ),
+        (
+            "the longest of 20 random routines of 8 facts",
+            routines.max_by_key(Vec::len).unwrap(),
+        ),
+        ("31 probes of 8 replies", probes()),
+        (
+            "31 changes: each fact stays",
+            changes(8, longest(8, |k| stays(8).and(trues(k)))),
+        ),
+        (
+            "31 changes: each fact is toggled",
+            changes(8, longest(8, |k| toggles(8).and(trues(k)))),
+        ),
+        (
+            "31 changes: to the last state alone",
+            changes(8, longest(8, |k| trues(k).and(only_last()))),
+        ),
+        (
+            "31 changes: to any state, short theories",
+            changes(8, Objective::True),
+        ),
+        ("31 changes of 1 fact: it stays", changes(1, stays(1))),
+        ("the most atoms in the goal", most(2000, goal_of_atoms)),
+        (
+            "64 actions and 63 branches, long conditions",
+            most(40, long_program),
+        ),
+    ];
+    sheets.map(|(name, bytes)| (name.to_string(), bytes)).into()
+}
+
+/// The largest sheet of a series that is accepted.
+fn most(limit: usize, sheet: impl Fn(usize) -> Sheet) -> Vec<u8> {
+    let sheets = (1..=limit).rev().map(|k| encode(&sheet(k)));
+    let mut accepted = sheets.filter(|bytes| read(bytes).is_ok());
+    accepted.next().unwrap()
+}
+
+fn goal_of_atoms(count: usize) -> Sheet {
+    let mut sheet = sheet_of_changes(8, Objective::True);
+    sheet.actions.clear();
+    sheet.goal = balanced(&vec![Epistemic::Known(Objective::True); count]);
+    sheet
+}
+
+/// 63 branches, each inside the one before, and 64 actions; conditions of so many facts.
+fn long_program(facts: usize) -> Sheet {
+    let mut sheet = sheet_of_changes(8, Objective::True);
+    sheet.actions = vec![Action::Probe(vec![
+        Objective::Fact(0),
+        Objective::Fact(0).negate(),
+    ])];
+    let condition = |i: usize| {
+        let parts = (0..facts).map(|j| Objective::Fact(((i + j) % 8) as u8));
+        Epistemic::Known(all(parts))
+    };
+    sheet.program = (0..63).fold(Program::act(0, Program::End), |inner, i| {
+        let then = Program::act(0, inner);
+        Program::branch(condition(i), then, Program::End, Program::End)
+    });
+    sheet
+}
+
+/// The formulas joined by "and", in a tree of few levels.
+fn balanced(formulas: &[Epistemic]) -> Epistemic {
+    match formulas {
+        [formula] => formula.clone(),
+        _ => {
+            let (left, right) = formulas.split_at(formulas.len() / 2);
+            balanced(left).and(balanced(right))
+        }
+    }
 }
 
 fn sheets() -> Vec<(String, Vec<u8>)> {
@@ -157,7 +415,7 @@ fn changes(facts: u8, theory: Objective) -> Vec<u8> {
 
 /// The longest of a series of theories with which a sheet of 31 changes is accepted.
 fn longest(facts: u8, theory: impl Fn(u8) -> Objective) -> Objective {
-    let fits = |k: &u8| recovery::read::read(&changes(facts, theory(*k))).is_ok();
+    let fits = |k: &u8| read(&changes(facts, theory(*k))).is_ok();
     theory((2..60).take_while(fits).last().unwrap())
 }
 

@@ -1,12 +1,12 @@
 -- `progression::settle` meets its contract. The loop's invariant: the program settles where it settles from node i on. The measure is what is left of the nodes. Assumes nothing.
 use Prim.Native.Nat.{_-_}
-use mathlib.Core.Path.{_≡_, sym, _∙_}
+use mathlib.Core.Path.{_≡_, sym, subst, _∙_}
 use native.Mathlib.Omega.{arith}
 use denote.Ref.{now}
 use borrow.Author.Needs.{needs}
 use Rattle.routine.specs.declared.memory.Node.{Node}
-use Rattle.routine.specs.Memory.{nodeAt}
-use Rattle.progression.specs.Machine.{knownBy, settled}
+use Rattle.routine.specs.Memory.{Small, nodeAt}
+use Rattle.progression.specs.Machine.{knownBy, settled, Inside}
 use Rattle.progression.proofs.MachineLaws.{run, run-act, run-end, run-jump, run-met, run-unmet, run-past, settled-run, jump-small, test-small}
 use Rattle.progression.proofs.place.settle.Statement.{statement}
 use Rattle.progression.proofs.place.settle.Tie as tie
@@ -27,21 +27,25 @@ enum-known-a : tie.Need-enum-known-a Inv-loop μ-loop
 enum-known-a c = search needs
 
 returns : tie.Need-returns Inv-loop μ-loop
+unfolding Inside Small
 returns c =
     let a = c .before .before .before .before .before .before .args in
     let l = c .before .before .before .before .before .loop in
-    let e : nodeAt (now (a .nodes)) (l .i) ≡ Node.Act (c .before .a .given .0 .0) = sym (c .before .before .before .node-at .ensures .0) ∙ c .before .a .given .1 in
-    sym (l .inv ∙ run-act (now (a .nodes)) (knownBy (now (a .sets)) (a .set)) (l .i) (omega arith) _ e)
+    let e : nodeAt (now (a .nodes)) (l .i) ≡ Node.Act (c .before .a .given .0 .0) = sym (c .before .before .before .node-at .ensures .0) ∙ c .before .a .given .1 in (
+      sym (l .inv ∙ run-act (now (a .nodes)) (knownBy (now (a .sets)) (a .set)) (l .i) (omega arith) _ e),
+      (omega arith, subst Small (c .before .a .given .1) (c .before .before .before .node-at .ensures .1)),
+    )
 
 enum-known-holds : tie.Need-enum-known-holds Inv-loop μ-loop
 enum-known-holds c = search needs
 
 returns-2 : tie.Need-returns-2 Inv-loop μ-loop
+unfolding Inside
 returns-2 c =
     let a = c .before .before .before .before .before .before .args in
     let l = c .before .before .before .before .before .loop in
     let e : nodeAt (now (a .nodes)) (l .i) ≡ Node.End (c .before .holds .given .0 .0) = sym (c .before .before .before .node-at .ensures .0) ∙ c .before .holds .given .1 in
-    sym (l .inv ∙ run-end (now (a .nodes)) (knownBy (now (a .sets)) (a .set)) (l .i) (omega arith) _ e)
+    (sym (l .inv ∙ run-end (now (a .nodes)) (knownBy (now (a .sets)) (a .set)) (l .i) (omega arith) _ e), tt)
 
 enum-known-skip : tie.Need-enum-known-skip Inv-loop μ-loop
 enum-known-skip c = search needs
@@ -103,10 +107,11 @@ loop-again-3 c =
     l .inv ∙ run-unmet (now (a .nodes)) (knownBy (now (a .sets)) (a .set)) (l .i) (omega arith) _ _ _ e (sym (c .before .known .ensures) ∙ c .if1 .left)
 
 returns-3 : tie.Need-returns-3 Inv-loop μ-loop
+unfolding Inside
 returns-3 c =
     let a = c .before .before .args in
     let l = c .before .loop in
-    sym (l .inv ∙ run-past (now (a .nodes)) (knownBy (now (a .sets)) (a .set)) (l .i) (omega arith))
+    (sym (l .inv ∙ run-past (now (a .nodes)) (knownBy (now (a .sets)) (a .set)) (l .i) (omega arith)), tt)
 
 pub settle-spec : {M : Type 1} → statement M
 settle-spec =

@@ -1,0 +1,204 @@
+//! A sheet's tables, steps over them and where the program settles, as a plain
+//! Rust program does it: what the proved functions are compared with.
+
+use recovery::sheet::{Action, Epistemic, Program, Sheet};
+use recovery::states::{states, State};
+use recovery::step::start_states;
+use recovery::truth::{holds, holds_between};
+
+use crate::{Place, Tables, Words};
+
+/// A set's words.
+pub fn words(members: impl IntoIterator<Item = State>) -> Words {
+    let mut words = [0; 4];
+    for state in members {
+        words[usize::from(state / 64)] |= 1 << (state % 64);
+    }
+    words
+}
+
+/// Writes the tables of an accepted sheet, and gives its start set.
+pub fn prepare(sheet: &Sheet, tables: &mut Tables) -> Words {
+    let mut filling = Filling {
+        tables,
+        nodes: 0,
+        sets: 0,
+    };
+    for (number, action) in sheet.actions.iter().enumerate() {
+        filling.action(sheet, number, action);
+    }
+    filling.program(&sheet.program);
+    filling.tests(&sheet.goal, 0, 1);
+    filling.node([3, 1, 0, 0]);
+    filling.node([3, 0, 0, 0]);
+    words(start_states(sheet).iter())
+}
+
+/// Tables with so many nodes and sets written.
+struct Filling<'a> {
+    tables: &'a mut Tables,
+    nodes: usize,
+    sets: usize,
+}
+
+impl Filling<'_> {
+    fn set(&mut self, members: impl Iterator<Item = State>) {
+        let place = 4 * self.sets;
+        self.tables.sets[place..place + 4].copy_from_slice(&words(members));
+        self.sets += 1;
+    }
+
+    fn node(&mut self, cells: [u16; 4]) {
+        let place = 4 * self.nodes;
+        self.tables.nodes[place..place + 4].copy_from_slice(&cells);
+        self.nodes += 1;
+    }
+
+    fn action(&mut self, sheet: &Sheet, number: usize, action: &Action) {
+        let rows = self.sets;
+        if let Action::Change(theory) = action {
+            let last = states(sheet).last().unwrap();
+            for before in 0..=State::MAX {
+                let next = |&after: &State| before <= last && holds_between(theory, before, after);
+                self.set((0..=last).filter(next));
+            }
+        }
+        let replies = self.sets;
+        match action {
+            Action::Change(_) => self.set(0..=State::MAX),
+            Action::Probe(formulas) => {
+                for formula in formulas {
+                    self.set((0..=State::MAX).filter(|&state| holds(formula, state)));
+                }
+            }
+        }
+        let head = [rows, replies, usize::from(action.reply_count())];
+        self.tables.heads[3 * number..3 * number + 3].copy_from_slice(&head.map(|x| x as u16));
+    }
+
+    /// Where the formula holds `met` nodes behind its last test are skipped, else `unmet`.
+    fn tests(&mut self, formula: &Epistemic, met: usize, unmet: usize) {
+        match formula {
+            Epistemic::Known(part) | Epistemic::NotKnown(part) => {
+                let (known, unknown) = match formula {
+                    Epistemic::Known(_) => (met, unmet),
+                    _ => (unmet, met),
+                };
+                self.node([1, self.sets as u16, known as u16, unknown as u16]);
+                self.set((0..=State::MAX).filter(|&state| holds(part, state)));
+            }
+            Epistemic::And(left, right) => {
+                self.tests(left, 0, atoms(right) + unmet);
+                self.tests(right, met, unmet);
+            }
+            Epistemic::Or(left, right) => {
+                self.tests(left, atoms(right) + met, 0);
+                self.tests(right, met, unmet);
+            }
+        }
+    }
+
+    fn program(&mut self, program: &Program) {
+        match program {
+            Program::End => {}
+            Program::Act { action, rest } => {
+                self.node([0, u16::from(*action), 0, 0]);
+                self.program(rest);
+            }
+            Program::Branch {
+                condition,
+                then,
+                otherwise,
+                rest,
+            } => {
+                self.tests(condition, 0, size(then) + 1);
+                self.program(then);
+                self.node([2, 0, size(otherwise) as u16, 0]);
+                self.program(otherwise);
+                self.program(rest);
+            }
+        }
+    }
+}
+
+/// How many parts "known" and "not known" a formula has.
+fn atoms(formula: &Epistemic) -> usize {
+    match formula {
+        Epistemic::Known(_) | Epistemic::NotKnown(_) => 1,
+        Epistemic::And(left, right) | Epistemic::Or(left, right) => atoms(left) + atoms(right),
+    }
+}
+
+/// How many nodes a program takes.
+fn size(program: &Program) -> usize {
+    match program {
+        Program::End => 0,
+        Program::Act { rest, .. } => 1 + size(rest),
+        Program::Branch {
+            condition,
+            then,
+            otherwise,
+            rest,
+        } => atoms(condition) + size(then) + 1 + size(otherwise) + size(rest),
+    }
+}
+
+fn set_at(tables: &Tables, number: usize) -> &[u64] {
+    &tables.sets[4 * number..4 * number + 4]
+}
+
+/// The states possible after an action and its reply, over the tables of a sheet.
+#[inline(never)]
+pub fn step(tables: &Tables, set: &mut Words, action: usize, reply: usize) {
+    let [rows, replies, count] = [0, 1, 2].map(|i| usize::from(tables.heads[3 * action + i]));
+    if reply >= count {
+        *set = [0; 4];
+        return;
+    }
+    if rows < replies {
+        let mut gathered = [0; 4];
+        for (index, &word) in set.iter().enumerate() {
+            let mut left = word;
+            while left != 0 {
+                let state = 64 * index + left.trailing_zeros() as usize;
+                left &= left - 1;
+                for (all, next) in gathered.iter_mut().zip(set_at(tables, rows + state)) {
+                    *all |= next;
+                }
+            }
+        }
+        *set = gathered;
+    }
+    for (kept, told) in set.iter_mut().zip(set_at(tables, replies + reply)) {
+        *kept &= told;
+    }
+}
+
+/// Where the program settles from a node on, over the tables of a sheet.
+#[inline(never)]
+pub fn settle(tables: &Tables, set: &Words, at: usize) -> Place {
+    let mut node = at;
+    loop {
+        let cells: [u16; 4] = tables.nodes[4 * node..4 * node + 4].try_into().unwrap();
+        let [kind, operand, met, unmet] = cells.map(usize::from);
+        let skip = match kind {
+            0 => {
+                return Place::Act {
+                    node,
+                    action: operand,
+                }
+            }
+            1 => {
+                let known = set.iter().zip(set_at(tables, operand));
+                if known.fold(0, |out, (state, told)| out | (state & !told)) == 0 {
+                    met
+                } else {
+                    unmet
+                }
+            }
+            2 => met,
+            _ => return Place::End { goal: operand == 1 },
+        };
+        node += 1 + skip;
+    }
+}

@@ -1,0 +1,470 @@
+//! The proved tables, steps and places against the Rust implementation, and
+//! against a model of their definitions on memory with any numbers.
+
+use std::collections::{BTreeMap, BTreeSet, VecDeque};
+use std::sync::LazyLock;
+
+use linked::{plain, prepare, settle, step, Place, Tables, Words};
+use recovery::edges::edges;
+use recovery::encode::encode;
+use recovery::execute::Execution;
+use recovery::random::{damaged, good, Random, Size};
+use recovery::read::read;
+use recovery::sheet::{Action, Sheet};
+use recovery::states::{State, StateSet};
+use recovery::step::{gather, keep, start_states};
+
+/// Different accepted sheets of all sizes and at the limits, with their bytes.
+static ACCEPTED: LazyLock<BTreeMap<Vec<u8>, Sheet>> = LazyLock::new(|| {
+    let mut random = Random::new(21);
+    let mut sheets = edges();
+    for (count, size) in [(2000, Size::SMALL), (1200, Size::MEDIUM), (60, Size::LARGE)] {
+        sheets.extend((0..count).map(|_| encode(&good(&mut random, &size))));
+    }
+    sheets
+        .into_iter()
+        .filter_map(|bytes| read(&bytes).ok().map(|sheet| (bytes, sheet)))
+        .collect()
+});
+
+/// Memory with numbers that no sheet has on purpose.
+fn pattern(seed: u64) -> (Tables, Words) {
+    let mut random = Random::new(seed);
+    let tables = Tables::filled(|| word(&mut random));
+    let start = [0; 4].map(|_: u64| word(&mut random));
+    (tables, start)
+}
+
+fn word(random: &mut Random) -> u64 {
+    random.bits() << 32 ^ random.bits()
+}
+
+fn members(set: &Words) -> StateSet {
+    (0..=State::MAX)
+        .filter(|&state| member(set, usize::from(state)))
+        .collect()
+}
+
+fn member(set: &Words, state: usize) -> bool {
+    set[state / 64] >> (state % 64) & 1 == 1
+}
+
+#[test]
+fn refused_sheets_leave_the_memory_as_it_was() {
+    let mut random = Random::new(22);
+    let mut sheets = edges();
+    for (count, size) in [(6000, Size::SMALL), (2000, Size::MEDIUM), (60, Size::LARGE)] {
+        sheets.extend((0..count).map(|_| damaged(&mut random, &size)));
+    }
+    for length in [0, 1, 1024, 1025, 1 << 20] {
+        sheets.push(vec![0x11; length]);
+    }
+    let (before, before_start) = pattern(23);
+    let (mut tables, mut start) = (before.clone(), before_start);
+    let mut refused: [BTreeSet<Vec<u8>>; 16] = Default::default();
+    for bytes in sheets {
+        let Err(refusal) = read(&bytes) else {
+            continue;
+        };
+        let number = prepare(&bytes, &mut tables, &mut start);
+        assert_eq!(number, refusal.number(), "sheet {bytes:02x?}");
+        assert!(tables == before, "sheet {bytes:02x?}");
+        assert_eq!(start, before_start, "sheet {bytes:02x?}");
+        refused[usize::from(number)].insert(bytes);
+    }
+    let counts = refused.map(|sheets| sheets.len());
+    assert!(counts[1..].iter().all(|&count| count > 0), "{counts:?}");
+    assert!(counts.iter().sum::<usize>() >= 4000, "{counts:?}");
+}
+
+/// What a sheet needs is written, and the rest of the memory keeps its numbers.
+#[test]
+fn accepted_sheets_are_written_over_any_memory() {
+    let (before, before_start) = pattern(24);
+    let mut facts = BTreeMap::new();
+    for (bytes, sheet) in ACCEPTED.iter() {
+        let (mut tables, mut start) = (before.clone(), before_start);
+        let mut expected = before.clone();
+        let expected_start = plain::prepare(sheet, &mut expected);
+        let answer = prepare(bytes, &mut tables, &mut start);
+        assert_eq!(answer, 0, "sheet {bytes:02x?}");
+        assert!(tables == expected, "sheet {bytes:02x?}");
+        assert_eq!(start, expected_start, "sheet {bytes:02x?}");
+        *facts.entry(sheet.facts).or_insert(0) += 1;
+    }
+    assert!(ACCEPTED.len() >= 3000, "{} sheets", ACCEPTED.len());
+    assert!(facts.keys().copied().eq(1..=8), "{facts:?}");
+}
+
+/// What was compared on the way through routines.
+#[derive(Debug, Default)]
+struct Compared {
+    actions: usize,
+    goals_met: usize,
+    goals_missed: usize,
+    probed: usize,
+    changed: usize,
+    impossible: usize,
+    no_such_reply: usize,
+    /// Sheets of which every history was compared.
+    whole: usize,
+    longest: usize,
+}
+
+/// A point of a history: the replies so far, the next node, the possible states by both.
+#[derive(Clone)]
+struct Point {
+    replies: Vec<u8>,
+    at: usize,
+    set: Words,
+    possible: StateSet,
+}
+
+impl Compared {
+    /// The sheet's tables and the point before its first action.
+    fn start(&mut self, bytes: &[u8], sheet: &Sheet) -> (Tables, Point) {
+        let (mut tables, mut set) = pattern(25);
+        assert_eq!(prepare(bytes, &mut tables, &mut set), 0);
+        let possible = start_states(sheet);
+        assert_eq!(members(&set), possible, "sheet {bytes:02x?}");
+        let point = Point {
+            replies: Vec::new(),
+            at: 0,
+            set,
+            possible,
+        };
+        (tables, point)
+    }
+
+    /// Compares where the routine stands; gives the node and the action.
+    fn place(
+        &mut self,
+        tables: &Tables,
+        point: &Point,
+        execution: &Execution,
+    ) -> Option<(usize, usize)> {
+        self.longest = self.longest.max(point.replies.len());
+        match settle(tables, &point.set, point.at) {
+            Place::Act { node, action } => {
+                assert_eq!(execution.next().map(usize::from), Some(action));
+                self.actions += 1;
+                Some((node, action))
+            }
+            Place::End { goal } => {
+                assert_eq!(execution.next(), None);
+                assert_eq!(execution.goal_holds(), goal);
+                if goal {
+                    self.goals_met += 1;
+                } else {
+                    self.goals_missed += 1;
+                }
+                None
+            }
+        }
+    }
+
+    /// Compares the possible states after each reply, and one more than there
+    /// are; gives the points that a run reaches.
+    fn steps(
+        &mut self,
+        sheet: &Sheet,
+        tables: &Tables,
+        point: &Point,
+        node: usize,
+        number: usize,
+    ) -> Vec<Point> {
+        let action = &sheet.actions[number];
+        let gathered = gather(sheet, action, &point.possible);
+        let mut points = Vec::new();
+        for reply in 0..=action.reply_count() {
+            let mut set = point.set;
+            step(tables, &mut set, number, usize::from(reply));
+            let possible = keep(action, reply, &gathered);
+            assert_eq!(members(&set), possible, "after {:?}", point.replies);
+            if reply == action.reply_count() {
+                self.no_such_reply += 1;
+            } else if possible.is_empty() {
+                self.impossible += 1;
+            } else {
+                match action {
+                    Action::Probe(_) => self.probed += 1,
+                    Action::Change(_) => self.changed += 1,
+                }
+                let mut replies = point.replies.clone();
+                replies.push(reply);
+                points.push(Point {
+                    replies,
+                    at: node + 1,
+                    set,
+                    possible,
+                });
+            }
+        }
+        points
+    }
+}
+
+fn replayed<'a>(sheet: &'a Sheet, replies: &[u8]) -> Execution<'a> {
+    let mut execution = Execution::new(sheet);
+    for &reply in replies {
+        execution.take(reply).unwrap();
+    }
+    execution
+}
+
+/// All histories of each routine, shorter ones first, as far as a limit.
+#[test]
+fn short_histories() {
+    let mut compared = Compared::default();
+    for (bytes, sheet) in ACCEPTED.iter() {
+        let (tables, start) = compared.start(bytes, sheet);
+        let mut left = 60;
+        let mut queue = VecDeque::from([start]);
+        while let Some(point) = queue.pop_front() {
+            if left == 0 {
+                break;
+            }
+            left -= 1;
+            let execution = replayed(sheet, &point.replies);
+            if let Some((node, action)) = compared.place(&tables, &point, &execution) {
+                queue.extend(compared.steps(sheet, &tables, &point, node, action));
+            }
+        }
+        compared.whole += usize::from(left > 0);
+    }
+    assert!(compared.whole >= 3000, "{compared:?}");
+    assert!(compared.actions >= 10_000, "{compared:?}");
+    assert!(compared.goals_met >= 3000, "{compared:?}");
+    assert!(compared.goals_missed >= 3000, "{compared:?}");
+    assert!(compared.probed >= 10_000, "{compared:?}");
+    assert!(compared.changed >= 5000, "{compared:?}");
+    assert!(compared.impossible >= 3000, "{compared:?}");
+    assert_eq!(compared.no_such_reply, compared.actions, "{compared:?}");
+}
+
+/// Random histories of each routine, to its end.
+#[test]
+fn full_histories() {
+    let mut compared = Compared::default();
+    let mut random = Random::new(26);
+    for (bytes, sheet) in ACCEPTED.iter() {
+        let (tables, start) = compared.start(bytes, sheet);
+        for _ in 0..2 {
+            let mut point = start.clone();
+            let mut execution = Execution::new(sheet);
+            while let Some((node, action)) = compared.place(&tables, &point, &execution) {
+                let points = compared.steps(sheet, &tables, &point, node, action);
+                point = random.pick(&points).clone();
+                execution.take(*point.replies.last().unwrap()).unwrap();
+            }
+        }
+    }
+    let ends = compared.goals_met + compared.goals_missed;
+    assert_eq!(ends, 2 * ACCEPTED.len(), "{compared:?}");
+    assert!(compared.goals_met >= 1000, "{compared:?}");
+    assert!(compared.goals_missed >= 1000, "{compared:?}");
+    assert!(compared.longest >= 20, "{compared:?}");
+}
+
+/// Steps and places as `progression/specs/Machine` and `routine/specs/Memory` define them.
+mod machine {
+    use super::member;
+    use linked::{Place, Tables, Words};
+
+    const HEADS: usize = 31;
+    const NODES: usize = 2048;
+    const SETS: usize = 10_240;
+
+    fn set_at(tables: &Tables, k: usize) -> Words {
+        if k >= SETS {
+            return [0; 4];
+        }
+        [0, 1, 2, 3].map(|i| tables.sets[4 * k + i])
+    }
+
+    fn head_at(tables: &Tables, a: usize) -> [usize; 3] {
+        if a >= HEADS {
+            return [0; 3];
+        }
+        [0, 1, 2].map(|i| usize::from(tables.heads[3 * a + i]))
+    }
+
+    fn set_of(test: impl Fn(usize) -> bool) -> Words {
+        let mut words = [0; 4];
+        for state in (0..256).filter(|&state| test(state)) {
+            words[state / 64] |= 1 << (state % 64);
+        }
+        words
+    }
+
+    fn gathered(tables: &Tables, first: usize, set: &Words) -> Words {
+        let rows: Vec<Words> = (0..256)
+            .filter(|&state| member(set, state))
+            .map(|state| set_at(tables, first + state))
+            .collect();
+        set_of(|next| rows.iter().any(|row| member(row, next)))
+    }
+
+    pub fn has_rows(tables: &Tables, action: usize) -> bool {
+        let [rows, replies, _] = head_at(tables, action);
+        rows < replies
+    }
+
+    pub fn stepped(tables: &Tables, set: &Words, action: usize, reply: usize) -> Words {
+        let [rows, replies, count] = head_at(tables, action);
+        if reply >= count {
+            return [0; 4];
+        }
+        let effect = if rows < replies {
+            gathered(tables, rows, set)
+        } else {
+            *set
+        };
+        let told = set_at(tables, replies + reply);
+        set_of(|state| member(&effect, state) && member(&told, state))
+    }
+
+    /// The place, whether it was told by a node, and how many tests were known and not.
+    pub fn settled(tables: &Tables, set: &Words, at: usize) -> (Place, bool, [usize; 2]) {
+        let mut skip = at;
+        let mut tests = [0; 2];
+        for node in 0..NODES {
+            if skip > 0 {
+                skip -= 1;
+                continue;
+            }
+            let [kind, operand, met, unmet] =
+                [0, 1, 2, 3].map(|i| usize::from(tables.nodes[4 * node + i]));
+            skip = match kind {
+                0 => {
+                    let place = Place::Act {
+                        node,
+                        action: operand,
+                    };
+                    return (place, true, tests);
+                }
+                1 => {
+                    let told = set_at(tables, operand);
+                    let known = (0..256).all(|state| !member(set, state) || member(&told, state));
+                    tests[usize::from(!known)] += 1;
+                    if known {
+                        met
+                    } else {
+                        unmet
+                    }
+                }
+                2 => met,
+                _ => return (Place::End { goal: operand == 1 }, true, tests),
+            };
+        }
+        (Place::End { goal: false }, false, tests)
+    }
+}
+
+/// A set from none to all of the states, or few of them.
+fn random_set(random: &mut Random) -> Words {
+    match random.below(6) {
+        0 => [0; 4],
+        1 => [u64::MAX; 4],
+        2 => plain::words([random.bits() as State, random.bits() as State]),
+        3 => [0; 4].map(|_: u64| word(random) & word(random) & word(random)),
+        4 => [0; 4].map(|_: u64| word(random) | word(random) | word(random)),
+        _ => [0; 4].map(|_: u64| word(random)),
+    }
+}
+
+/// A number below the limit, around it, or any.
+fn random_index(random: &mut Random, limit: usize) -> usize {
+    match random.below(8) {
+        0 => random.between(limit - 2, limit + 2),
+        1 => word(random) as usize,
+        2 => usize::MAX - random.below(3),
+        _ => random.below(limit),
+    }
+}
+
+/// Memory with any numbers, in most of which a program goes some way and steps
+/// find sets.
+fn random_tables(random: &mut Random) -> Tables {
+    let mut tables = Tables::filled(|| word(random));
+    if random.chance(1, 8) {
+        return tables;
+    }
+    for cell in tables.heads.iter_mut() {
+        if random.chance(7, 8) {
+            *cell = random.below(10_300) as u16;
+        }
+    }
+    let farthest = *random.pick(&[1, 3, 40, 1000]);
+    for node in tables.nodes.chunks_exact_mut(4) {
+        if random.chance(31, 32) {
+            node[0] = 1 + random.below(2) as u16;
+            node[1] = random.below(10_300) as u16;
+            node[2] = random.below(farthest) as u16;
+            node[3] = random.below(farthest) as u16;
+        } else if random.chance(7, 8) {
+            node[0] = *random.pick(&[0, 3, 4, 65535]);
+            node[1] = random.below(3) as u16;
+        }
+    }
+    for words in tables.sets.chunks_exact_mut(4) {
+        words.copy_from_slice(&random_set(random));
+    }
+    tables
+}
+
+#[test]
+fn steps_on_any_memory() {
+    let mut random = Random::new(27);
+    let (mut gathered, mut kept, mut empty, mut past) = (0, 0, 0, 0);
+    for _ in 0..200 {
+        let tables = random_tables(&mut random);
+        for _ in 0..40 {
+            let before = random_set(&mut random);
+            let action = random_index(&mut random, 31);
+            let reply = match random.below(4) {
+                0 => random.below(8),
+                1 => random_index(&mut random, 65_536),
+                _ => random.below(4000),
+            };
+            let expected = machine::stepped(&tables, &before, action, reply);
+            let mut set = before;
+            step(&tables, &mut set, action, reply);
+            assert_eq!(set, expected, "action {action} reply {reply} {before:x?}");
+            match (expected == [0; 4], machine::has_rows(&tables, action)) {
+                (false, true) => gathered += 1,
+                (false, false) => kept += 1,
+                (true, _) => empty += 1,
+            }
+            past += usize::from(action >= 31);
+        }
+    }
+    let counts = [gathered, kept, empty, past];
+    assert!(counts.iter().all(|&count| count >= 500), "{counts:?}");
+}
+
+#[test]
+fn places_on_any_memory() {
+    let mut random = Random::new(28);
+    let (mut acts, mut met, mut missed, mut past) = (0, 0, 0, 0);
+    let mut tests = [0; 2];
+    for _ in 0..200 {
+        let tables = random_tables(&mut random);
+        for _ in 0..40 {
+            let set = random_set(&mut random);
+            let at = random_index(&mut random, 2048);
+            let (expected, told, walked) = machine::settled(&tables, &set, at);
+            assert_eq!(settle(&tables, &set, at), expected, "from {at} {set:x?}");
+            match (expected, told) {
+                (Place::Act { .. }, _) => acts += 1,
+                (Place::End { goal: true }, _) => met += 1,
+                (Place::End { goal: false }, true) => missed += 1,
+                (Place::End { goal: false }, false) => past += 1,
+            }
+            tests = [tests[0] + walked[0], tests[1] + walked[1]];
+        }
+    }
+    let counts = [acts, met, missed, past];
+    assert!(counts.iter().all(|&count| count >= 300), "{counts:?}");
+    assert!(tests.iter().all(|&count| count >= 10_000), "{tests:?}");
+}
