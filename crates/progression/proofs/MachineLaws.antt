@@ -66,17 +66,17 @@ module _ (nodes : List ℕ) (known : ℕ → Bool) where
       go (Node.End holds) n on h = let z : _≡_ {A = ℕ} 0 1 = cc in absurd (omega arith)
 
   -- Where the program settles from node i on.
-  abbrev pub run : ℕ → Place
-  run i = settledFrom nodes known (nodeMost - i) 0 i
+  abbrev pub goesTo : ℕ → Place
+  goesTo i = settledFrom nodes known (nodeMost - i) 0 i
 
   -- A node that is there is where it settles, or leads on by what is known.
-  pub run-on : (i : ℕ) → i < nodeMost → run i ≡ atNode known (nodeAt nodes i) i (λ skip. run (i + 1 + skip))
-  run-on i h =
+  pub goes-on : (i : ℕ) → i < nodeMost → goesTo i ≡ atNode known (nodeAt nodes i) i (λ skip. goesTo (i + 1 + skip))
+  goes-on i h =
       let l : nodeMost - i ≡ suc (nodeMost - (i + 1)) = omega arith in
       ap (λ (left : ℕ). settledFrom nodes known left 0 i) l ∙ settled-here (nodeMost - (i + 1)) i
-      ∙ atNode-same known (nodeAt nodes i) i (λ skip. settledFrom nodes known (nodeMost - (i + 1)) skip (suc i)) (λ skip. run (i + 1 + skip)) onward
+      ∙ atNode-same known (nodeAt nodes i) i (λ skip. settledFrom nodes known (nodeMost - (i + 1)) skip (suc i)) (λ skip. goesTo (i + 1 + skip)) onward
     where
-      onward : (skip : ℕ) → settledFrom nodes known (nodeMost - (i + 1)) skip (suc i) ≡ run (i + 1 + skip)
+      onward : (skip : ℕ) → settledFrom nodes known (nodeMost - (i + 1)) skip (suc i) ≡ goesTo (i + 1 + skip)
       onward skip =
           let l : nodeMost - (i + 1) - skip ≡ nodeMost - (i + 1 + skip) = omega arith in
           let j : suc i + skip ≡ i + 1 + skip = omega arith in
@@ -84,40 +84,40 @@ module _ (nodes : List ℕ) (known : ℕ → Bool) where
 
   -- By what stands there.
   module _ (i : ℕ) (h : i < nodeMost) where
-    pub run-act : (a : ℕ) → nodeAt nodes i ≡ Node.Act a → run i ≡ Place.Act i a
+    pub goes-act : (a : ℕ) → nodeAt nodes i ≡ Node.Act a → goesTo i ≡ Place.Act i a
     unfolding atNode
-    run-act a e = run-on i h ∙ ap (λ (node : Node). atNode known node i (λ skip. run (i + 1 + skip))) e
+    goes-act a e = goes-on i h ∙ ap (λ (node : Node). atNode known node i (λ skip. goesTo (i + 1 + skip))) e
 
-    pub run-end : (holds : Bool) → nodeAt nodes i ≡ Node.End holds → run i ≡ Place.End holds
+    pub goes-end : (holds : Bool) → nodeAt nodes i ≡ Node.End holds → goesTo i ≡ Place.End holds
     unfolding atNode
-    run-end holds e = run-on i h ∙ ap (λ (node : Node). atNode known node i (λ skip. run (i + 1 + skip))) e
+    goes-end holds e = goes-on i h ∙ ap (λ (node : Node). atNode known node i (λ skip. goesTo (i + 1 + skip))) e
 
-    pub run-jump : (skip : ℕ) → nodeAt nodes i ≡ Node.Jump skip → run i ≡ run (i + 1 + skip)
+    pub goes-jump : (skip : ℕ) → nodeAt nodes i ≡ Node.Jump skip → goesTo i ≡ goesTo (i + 1 + skip)
     unfolding atNode
-    run-jump skip e = run-on i h ∙ ap (λ (node : Node). atNode known node i (λ skip. run (i + 1 + skip))) e
+    goes-jump skip e = goes-on i h ∙ ap (λ (node : Node). atNode known node i (λ skip. goesTo (i + 1 + skip))) e
 
-    run-test : (k met unmet : ℕ) → nodeAt nodes i ≡ Node.Test k met unmet → run i ≡ run (i + 1 + (if known k then met else unmet))
+    goes-test : (k met unmet : ℕ) → nodeAt nodes i ≡ Node.Test k met unmet → goesTo i ≡ goesTo (i + 1 + (if known k then met else unmet))
     unfolding atNode
-    run-test k met unmet e = run-on i h ∙ ap (λ (node : Node). atNode known node i (λ skip. run (i + 1 + skip))) e
+    goes-test k met unmet e = goes-on i h ∙ ap (λ (node : Node). atNode known node i (λ skip. goesTo (i + 1 + skip))) e
 
-    pub run-met : (k met unmet : ℕ) → nodeAt nodes i ≡ Node.Test k met unmet → known k ≡ true → run i ≡ run (i + 1 + met)
+    pub goes-met : (k met unmet : ℕ) → nodeAt nodes i ≡ Node.Test k met unmet → known k ≡ true → goesTo i ≡ goesTo (i + 1 + met)
     unfolding if_then_else_
-    run-met k met unmet e t = run-test k met unmet e ∙ ap (λ (b : Bool). run (i + 1 + (if b then met else unmet))) t
+    goes-met k met unmet e t = goes-test k met unmet e ∙ ap (λ (b : Bool). goesTo (i + 1 + (if b then met else unmet))) t
 
-    pub run-unmet : (k met unmet : ℕ) → nodeAt nodes i ≡ Node.Test k met unmet → known k ≡ false → run i ≡ run (i + 1 + unmet)
+    pub goes-unmet : (k met unmet : ℕ) → nodeAt nodes i ≡ Node.Test k met unmet → known k ≡ false → goesTo i ≡ goesTo (i + 1 + unmet)
     unfolding if_then_else_
-    run-unmet k met unmet e t = run-test k met unmet e ∙ ap (λ (b : Bool). run (i + 1 + (if b then met else unmet))) t
+    goes-unmet k met unmet e t = goes-test k met unmet e ∙ ap (λ (b : Bool). goesTo (i + 1 + (if b then met else unmet))) t
 
   -- Behind the last node it ends, and the goal fails.
-  pub run-past : (i : ℕ) → nodeMost ≤ i → run i ≡ Place.End false
+  pub goes-past : (i : ℕ) → nodeMost ≤ i → goesTo i ≡ Place.End false
   unfolding settledFrom
-  run-past i h = let e : nodeMost - i ≡ 0 = omega arith in rw e
+  goes-past i h = let e : nodeMost - i ≡ 0 = omega arith in rw e
 
 module _ (nodes sets : List ℕ) (set : States) (at : ℕ) where
   -- The place that a program reaches from a node on.
-  pub settled-run : settled nodes sets set at ≡ run nodes (knownBy sets set) at
+  pub settled-goes : settled nodes sets set at ≡ goesTo nodes (knownBy sets set) at
   unfolding settled
-  settled-run =
+  settled-goes =
       let e : 0 + at ≡ at = omega arith in
       skipped nodes (knownBy sets set) nodeMost at 0 ∙ ap (settledFrom nodes (knownBy sets set) (nodeMost - at) 0) e
 

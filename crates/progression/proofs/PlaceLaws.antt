@@ -44,6 +44,11 @@ module _ {A : Type 0} (get : ℕ → A) (d : A) (i : ℕ) where
   row-first : (x : A) (xs : List A) → Row get d i (x ∷ xs) → get i ≡ x
   row-first x xs r = let e : i ≡ i + 0 = omega arith in ap get e ∙ r 0 (omega arith)
 
+-- A formula's table has every state of a set exactly if the formula holds in each.
+pub table-known : (table : ℕ → States) (set : States) (k : ℕ) (f : Objective) → table k ≡ setOf (λ s. holds f s) → every (member (table k)) (members set) ≡ every (holds f) (members set)
+table-known table set k f e =
+    every-same (member (table k)) (holds f) (members set) (λ s m. ap (λ (u : States). member u s) e ∙ member-setOf (λ t. holds f t) s (members-mem set m .0))
+
 -- What stands at each place of the memory: nodes and sets; the goal's tests begin at node `goal-at`; there are `count` actions.
 module _ (node : ℕ → Node) (table : ℕ → States) (goal-at count : ℕ) where
   -- Nodes stand from node i on, all inside the memory; sets stand from set k on.
@@ -118,19 +123,16 @@ module _ (node : ℕ → Node) (table : ℕ → States) (goal-at count : ℕ) wh
         else-stands = (k₂, rest-at, nodes-left else-at zs rs n₃, row-left table noStates k₂ (programSets z) _ s₂, at .4 .1, inl refl, rest-stands);
       }
 
-  -- Where a set of states is possible; `run` tells where the program settles from a node on.
-  module _ (set : States) (run : ℕ → Place)
-      (runs : (i : ℕ) → i < nodeMost → run i ≡ atNode (λ k. every (member (table k)) (members set)) (node i) i (λ skip. run (i + 1 + skip))) where
+  -- Where a set of states is possible; `goesTo` tells where the program settles from a node on.
+  module _ (set : States) (goesTo : ℕ → Place)
+      (goes : (i : ℕ) → i < nodeMost → goesTo i ≡ atNode (λ k. every (member (table k)) (members set)) (node i) i (λ skip. goesTo (i + 1 + skip))) where
     -- A test goes on by whether its formula is known.
-    atom-runs : (g : Objective) (i k met unmet : ℕ) → NodesAt i (Node.Test k met unmet ∷ []) → SetsAt k (setOf (λ s. holds g s) ∷ [])
-        → run i ≡ run (i + 1 + (if every (holds g) (members set) then met else unmet))
+    atom-goes : (g : Objective) (i k met unmet : ℕ) → NodesAt i (Node.Test k met unmet ∷ []) → SetsAt k (setOf (λ s. holds g s) ∷ [])
+        → goesTo i ≡ goesTo (i + 1 + (if every (holds g) (members set) then met else unmet))
     unfolding atNode
-    atom-runs g i k met unmet r s =
-        let e : table k ≡ setOf (λ s. holds g s) = row-first table noStates k _ [] s in
-        let t : every (member (table k)) (members set) ≡ every (holds g) (members set) =
-        every-same (member (table k)) (holds g) (members set) (λ x m. let b = members-mem set m in ap (λ (u : States). member u x) e ∙ member-setOf (λ s. holds g s) x (b .0)) in
-        runs i (omega (arith, r .1)) ∙ ap (λ (x : Node). atNode (λ k. every (member (table k)) (members set)) x i (λ skip. run (i + 1 + skip))) (row-first node (Node.End false) i _ [] (r .0))
-        ∙ ap (λ (b : Bool). run (i + 1 + (if b then met else unmet))) t
+    atom-goes g i k met unmet r s =
+        goes i (omega (arith, r .1)) ∙ ap (λ (x : Node). atNode (λ k. every (member (table k)) (members set)) x i (λ skip. goesTo (i + 1 + skip))) (row-first node (Node.End false) i _ [] (r .0))
+        ∙ ap (λ (b : Bool). goesTo (i + 1 + (if b then met else unmet))) (table-known table set k g (row-first table noStates k _ [] s))
 
     swapped : (b : Bool) (met unmet : ℕ) → _≡_ {A = ℕ} (if b then unmet else met) (if not b then met else unmet)
     unfolding if_then_else_
@@ -138,60 +140,60 @@ module _ (node : ℕ → Node) (table : ℕ → States) (goal-at count : ℕ) wh
     swapped false met unmet = refl
 
     -- Two parts, both or either of which hold.
-    both-run : (x y : Bool) (i p q met unmet : ℕ) → run (i + p) ≡ run (i + p + q + (if y then met else unmet))
-        → run (i + p + (if x then 0 else q + unmet)) ≡ run (i + (p + q) + (if x && y then met else unmet))
+    both-go : (x y : Bool) (i p q met unmet : ℕ) → goesTo (i + p) ≡ goesTo (i + p + q + (if y then met else unmet))
+        → goesTo (i + p + (if x then 0 else q + unmet)) ≡ goesTo (i + (p + q) + (if x && y then met else unmet))
     unfolding if_then_else_
-    both-run true y i p q met unmet e =
+    both-go true y i p q met unmet e =
         let a : i + p + 0 ≡ i + p = omega arith in
         let b : i + p + q ≡ i + (p + q) = omega arith in
-        ap run a ∙ e ∙ ap (λ (v : ℕ). run (v + (if y then met else unmet))) b
-    both-run false y i p q met unmet e = let a : i + p + (q + unmet) ≡ i + (p + q) + unmet = omega arith in ap run a
+        ap goesTo a ∙ e ∙ ap (λ (v : ℕ). goesTo (v + (if y then met else unmet))) b
+    both-go false y i p q met unmet e = let a : i + p + (q + unmet) ≡ i + (p + q) + unmet = omega arith in ap goesTo a
 
-    either-run : (x y : Bool) (i p q met unmet : ℕ) → run (i + p) ≡ run (i + p + q + (if y then met else unmet))
-        → run (i + p + (if x then q + met else 0)) ≡ run (i + (p + q) + (if x || y then met else unmet))
+    either-go : (x y : Bool) (i p q met unmet : ℕ) → goesTo (i + p) ≡ goesTo (i + p + q + (if y then met else unmet))
+        → goesTo (i + p + (if x then q + met else 0)) ≡ goesTo (i + (p + q) + (if x || y then met else unmet))
     unfolding if_then_else_
-    either-run true y i p q met unmet e = let a : i + p + (q + met) ≡ i + (p + q) + met = omega arith in ap run a
-    either-run false y i p q met unmet e =
+    either-go true y i p q met unmet e = let a : i + p + (q + met) ≡ i + (p + q) + met = omega arith in ap goesTo a
+    either-go false y i p q met unmet e =
         let a : i + p + 0 ≡ i + p = omega arith in
         let b : i + p + q ≡ i + (p + q) = omega arith in
-        ap run a ∙ e ∙ ap (λ (v : ℕ). run (v + (if y then met else unmet))) b
+        ap goesTo a ∙ e ∙ ap (λ (v : ℕ). goesTo (v + (if y then met else unmet))) b
 
     -- The tests of a formula go on by whether it holds.
-    tests-run : (f : Epistemic) (i k met unmet : ℕ) → NodesAt i (tests f k met unmet) → SetsAt k (atomSets f) → run i ≡ run (i + atoms f + (if satisfies (members set) f then met else unmet))
+    pub tests-go : (f : Epistemic) (i k met unmet : ℕ) → NodesAt i (tests f k met unmet) → SetsAt k (atomSets f) → goesTo i ≡ goesTo (i + atoms f + (if satisfies (members set) f then met else unmet))
     unfolding tests atomSets atoms satisfies
-    tests-run (known g) i k met unmet r s = atom-runs g i k met unmet r s
-    tests-run (not-known g) i k met unmet r s = atom-runs g i k unmet met r s ∙ ap (λ (v : ℕ). run (i + 1 + v)) (swapped (every (holds g) (members set)) met unmet)
-    tests-run (all-of f g) i k met unmet r s =
+    tests-go (known g) i k met unmet r s = atom-goes g i k met unmet r s
+    tests-go (not-known g) i k met unmet r s = atom-goes g i k unmet met r s ∙ ap (λ (v : ℕ). goesTo (i + 1 + v)) (swapped (every (holds g) (members set)) met unmet)
+    tests-go (all-of f g) i k met unmet r s =
         let ts = tests f k 0 (atoms g + unmet) in
         let us = tests g (k + atoms f) met unmet in
         let e : i + length ts ≡ i + atoms f = ap (λ (v : ℕ). i + v) (tests-length f k 0 (atoms g + unmet)) in
         let d : k + length (atomSets f) ≡ k + atoms f = ap (λ (v : ℕ). k + v) (atom-sets-length f) in
-        tests-run f i k 0 (atoms g + unmet) (nodes-left i ts us r) (row-left table noStates k (atomSets f) (atomSets g) s)
-        ∙ both-run (satisfies (members set) f) (satisfies (members set) g) i (atoms f) (atoms g) met unmet
-        (tests-run g (i + atoms f) (k + atoms f) met unmet (nodes-right i ts us (i + atoms f) e r) (row-right table noStates k (atomSets f) (atomSets g) (k + atoms f) d s))
-    tests-run (any-of f g) i k met unmet r s =
+        tests-go f i k 0 (atoms g + unmet) (nodes-left i ts us r) (row-left table noStates k (atomSets f) (atomSets g) s)
+        ∙ both-go (satisfies (members set) f) (satisfies (members set) g) i (atoms f) (atoms g) met unmet
+        (tests-go g (i + atoms f) (k + atoms f) met unmet (nodes-right i ts us (i + atoms f) e r) (row-right table noStates k (atomSets f) (atomSets g) (k + atoms f) d s))
+    tests-go (any-of f g) i k met unmet r s =
         let ts = tests f k (atoms g + met) 0 in
         let us = tests g (k + atoms f) met unmet in
         let e : i + length ts ≡ i + atoms f = ap (λ (v : ℕ). i + v) (tests-length f k (atoms g + met) 0) in
         let d : k + length (atomSets f) ≡ k + atoms f = ap (λ (v : ℕ). k + v) (atom-sets-length f) in
-        tests-run f i k (atoms g + met) 0 (nodes-left i ts us r) (row-left table noStates k (atomSets f) (atomSets g) s)
-        ∙ either-run (satisfies (members set) f) (satisfies (members set) g) i (atoms f) (atoms g) met unmet
-        (tests-run g (i + atoms f) (k + atoms f) met unmet (nodes-right i ts us (i + atoms f) e r) (row-right table noStates k (atomSets f) (atomSets g) (k + atoms f) d s))
+        tests-go f i k (atoms g + met) 0 (nodes-left i ts us r) (row-left table noStates k (atomSets f) (atomSets g) s)
+        ∙ either-go (satisfies (members set) f) (satisfies (members set) g) i (atoms f) (atoms g) met unmet
+        (tests-go g (i + atoms f) (k + atoms f) met unmet (nodes-right i ts us (i + atoms f) e r) (row-right table noStates k (atomSets f) (atomSets g) (k + atoms f) d s))
 
     -- A node that leads to another settles where that one does.
-    leads-run : (i out : ℕ) → Leads i out → run i ≡ run out
+    leads-go : (i out : ℕ) → Leads i out → goesTo i ≡ goesTo out
     unfolding atNode
-    leads-run i out (inl e) = ap run e
-    leads-run i out (inr jump) =
-        runs i (jump .2) ∙ ap (λ (x : Node). atNode (λ k. every (member (table k)) (members set)) x i (λ skip. run (i + 1 + skip))) (jump .1) ∙ ap run (jump .3)
+    leads-go i out (inl e) = ap goesTo e
+    leads-go i out (inr jump) =
+        goes i (jump .2) ∙ ap (λ (x : Node). atNode (λ k. every (member (table k)) (members set)) x i (λ skip. goesTo (i + 1 + skip))) (jump .1) ∙ ap goesTo (jump .3)
 
     -- What is left stands where the program settles.
     pub record Settles (i : ℕ) (ps : List Program) : Type 0 where
       pub place : ℕ
       pub stands : ProgramsAt place ps
-      pub same : run i ≡ run place
+      pub same : goesTo i ≡ goesTo place
 
-    settles-from : (i j : ℕ) (ps : List Program) → run i ≡ run j → Settles j ps → Settles i ps
+    settles-from : (i j : ℕ) (ps : List Program) → goesTo i ≡ goesTo j → Settles j ps → Settles i ps
     settles-from i j ps e s = record { place = s .place; stands = s .stands; same = e ∙ s .same }
 
     program-settles : (p : Program) (ps onward : List Program) → ((i : ℕ) → ProgramsAt i ps → Settles i onward) → (i : ℕ) → ProgramsAt i (p ∷ ps)
@@ -199,10 +201,10 @@ module _ (node : ℕ → Node) (table : ℕ → States) (goal-at count : ℕ) wh
     unfolding leftOf ProgramsAt size if_then_else_
     program-settles end ps onward later i at =
         let e : i ≡ i + 0 = omega arith in
-        settles-from i (at .1) onward (ap run e ∙ leads-run (i + 0) (at .1) (at .5)) (later (at .1) (at .6))
+        settles-from i (at .1) onward (ap goesTo e ∙ leads-go (i + 0) (at .1) (at .5)) (later (at .1) (at .6))
     program-settles (act a rest) ps onward later i at = record { place = i; stands = at; same = refl }
     program-settles (branch f y z rest) ps onward later i at =
-        go (satisfies (members set) f) (tests-run f i (parts .first-set) 0 (suc (size y)) (parts .condition-nodes) (parts .condition-sets))
+        go (satisfies (members set) f) (tests-go f i (parts .first-set) 0 (suc (size y)) (parts .condition-nodes) (parts .condition-sets))
         (program-settles y (rest ∷ ps) _ (program-settles rest ps onward later) (i + atoms f) (parts .then-stands))
         (program-settles z (rest ∷ ps) _ (program-settles rest ps onward later) (i + atoms f + suc (size y)) (parts .else-stands))
       where
@@ -212,9 +214,9 @@ module _ (node : ℕ → Node) (table : ℕ → States) (goal-at count : ℕ) wh
         on : Program → List Program
         on x = leftOf (satisfies (members set)) x (rest ∷ ps) (leftOf (satisfies (members set)) rest ps onward)
 
-        go : (b : Bool) → run i ≡ run (i + atoms f + (if b then 0 else suc (size y))) → Settles (i + atoms f) (on y) → Settles (i + atoms f + suc (size y)) (on z)
+        go : (b : Bool) → goesTo i ≡ goesTo (i + atoms f + (if b then 0 else suc (size y))) → Settles (i + atoms f) (on y) → Settles (i + atoms f + suc (size y)) (on z)
             → Settles i (if b then on y else on z)
-        go true e u v = let d : i + atoms f + 0 ≡ i + atoms f = omega arith in settles-from i (i + atoms f) (on y) (e ∙ ap run d) u
+        go true e u v = let d : i + atoms f + 0 ≡ i + atoms f = omega arith in settles-from i (i + atoms f) (on y) (e ∙ ap goesTo d) u
         go false e u v = settles-from i (i + atoms f + suc (size y)) (on z) e v
 
     pub programs-settle : (ps : List Program) (i : ℕ) → ProgramsAt i ps → Settles i (allLeft (satisfies (members set)) ps)
@@ -223,28 +225,28 @@ module _ (node : ℕ → Node) (table : ℕ → States) (goal-at count : ℕ) wh
     programs-settle (p ∷ ps) i at = program-settles p ps (allLeft (satisfies (members set)) ps) (programs-settle ps) i at
 
     -- An action is where the program settles, and what follows it stands behind it.
-    pub action-settles : (a : ℕ) (rest : Program) (ps : List Program) (i : ℕ) → ProgramsAt i (act a rest ∷ ps) → (run i ≡ Place.Act i a) × ProgramsAt (i + 1) (rest ∷ ps) × (a < count)
+    pub action-settles : (a : ℕ) (rest : Program) (ps : List Program) (i : ℕ) → ProgramsAt i (act a rest ∷ ps) → (goesTo i ≡ Place.Act i a) × ProgramsAt (i + 1) (rest ∷ ps) × (a < count)
     unfolding ProgramsAt programNodes programSets size NumbersBelow atNode
     action-settles a rest ps i at =
         let e : i + suc (size rest) ≡ i + 1 + size rest = omega arith in (
-          runs i (omega (arith, at .2 .1)) ∙ ap (λ (x : Node). atNode (λ k. every (member (table k)) (members set)) x i (λ skip. run (i + 1 + skip)))
+          goes i (omega (arith, at .2 .1)) ∙ ap (λ (x : Node). atNode (λ k. every (member (table k)) (members set)) x i (λ skip. goesTo (i + 1 + skip)))
               (row-first node (Node.End false) i (Node.Act a) (programNodes rest (at .0)) (at .2 .0)),
           (at .0, at .1, nodes-right i (Node.Act a ∷ []) (programNodes rest (at .0)) (i + 1) refl (at .2), at .3, at .4 .1, subst (λ (v : ℕ). Leads v (at .1)) e (at .5), at .6),
           at .4 .0,
         )
 
-    end-settles : (b : Bool) (i j : ℕ) (xs : List Node) → i ≡ j → NodesAt j (Node.End b ∷ xs) → run i ≡ Place.End b
+    end-settles : (b : Bool) (i j : ℕ) (xs : List Node) → i ≡ j → NodesAt j (Node.End b ∷ xs) → goesTo i ≡ Place.End b
     unfolding atNode
     end-settles b i j xs e r =
-        ap run e ∙ runs j (omega (arith, r .1)) ∙ ap (λ (x : Node). atNode (λ k. every (member (table k)) (members set)) x j (λ skip. run (j + 1 + skip)))
+        ap goesTo e ∙ goes j (omega (arith, r .1)) ∙ ap (λ (x : Node). atNode (λ k. every (member (table k)) (members set)) x j (λ skip. goesTo (j + 1 + skip)))
         (row-first node (Node.End false) j (Node.End b) xs (r .0))
 
     -- At the goal it settles at an end, by whether the goal holds.
     pub goal-settles : (goal : Epistemic) (k : ℕ) → NodesAt goal-at (tests goal k 0 1 ++ (Node.End true ∷ Node.End false ∷ [])) → SetsAt k (atomSets goal)
-        → run goal-at ≡ Place.End (satisfies (members set) goal)
+        → goesTo goal-at ≡ Place.End (satisfies (members set) goal)
     unfolding if_then_else_
     goal-settles goal k r s =
-        tests-run goal goal-at k 0 1 (nodes-left goal-at (tests goal k 0 1) ends r) s
+        tests-go goal goal-at k 0 1 (nodes-left goal-at (tests goal k 0 1) ends r) s
         ∙ go (satisfies (members set) goal)
       where
         ends : List Node
@@ -253,6 +255,6 @@ module _ (node : ℕ → Node) (table : ℕ → States) (goal-at count : ℕ) wh
         stand : NodesAt (goal-at + atoms goal) ends
         stand = nodes-right goal-at (tests goal k 0 1) ends (goal-at + atoms goal) (omega (arith, tests-length goal k 0 1)) r
 
-        go : (b : Bool) → run (goal-at + atoms goal + (if b then 0 else 1)) ≡ Place.End b
+        go : (b : Bool) → goesTo (goal-at + atoms goal + (if b then 0 else 1)) ≡ Place.End b
         go true = end-settles true _ (goal-at + atoms goal) (Node.End false ∷ []) (omega arith) stand
         go false = end-settles false _ (goal-at + atoms goal + 1) [] refl (nodes-right (goal-at + atoms goal) (Node.End true ∷ []) (Node.End false ∷ []) (goal-at + atoms goal + 1) refl stand)

@@ -2,7 +2,7 @@
 -- with the states possible after the history.
 use Prim.Native.Nat.{ℕ, _+_, _<_, _≤_}
 use mathlib.Core.Path.{_≡_, refl, ap, sym, subst, _∙_}
-use mathlib.Core.List.{List, [], _∷_, _++_, map-append, List·Memᴰ}
+use mathlib.Core.List.{List, [], _∷_, _++_, map-append, append-assoc, append-nil, List·Memᴰ}
 use mathlib.Core.Logic.{_⊎_, inl, inr}
 use mathlib.Core.Bool.{Bool, true, false}
 use native.Mathlib.Omega.{arith}
@@ -11,16 +11,17 @@ use Rattle.lists.specs.Lists.{every, nonempty}
 use Rattle.states.specs.declared.States.{States}
 use Rattle.states.specs.Sets.{member, setOf, members}
 use Rattle.states.proofs.SetLaws.{members-mem, mem-members}
-use Rattle.reader.specs.Syntax.{Epistemic, Program, end, act, branch, Sheet}
+use Rattle.reader.specs.Syntax.{Objective, Epistemic, known, Program, end, act, branch, Sheet}
+use Rattle.reader.specs.Truth.{holds}
 use Rattle.reader.specs.Format.{accepted, reading}
 use Rattle.reader.proofs.SheetLaws.{accepted-shape}
-use Rattle.semantics.specs.Runs.{Entry, entry, History, extended, replies, IsRun, lastState, holdsAfter, occurs}
+use Rattle.semantics.specs.Runs.{Entry, entry, History, extended, replies, IsRun, lastState, knownAfter, holdsAfter, occurs}
 use Rattle.semantics.specs.Routine.{Policy, done, perform, policy, routine, Follows}
 use Rattle.semantics.specs.Replies.{leftAfter}
 use Rattle.semantics.specs.Progression.{satisfies, startSet, nextSet, setAfter}
 use Rattle.semantics.proofs.ProgressionLaws.{possible-run, run-possible, holds-possible, occurs-possible, set-states}
 use Rattle.semantics.proofs.AcceptedLaws.{actions-most}
-use Rattle.semantics.proofs.ReplyLaws.{next-follows}
+use Rattle.semantics.proofs.ReplyLaws.{follows-none, left-next, left-more, next-follows}
 use Rattle.routine.specs.declared.memory.Node.{Node}
 use Rattle.routine.specs.Memory.{nodeMost, setAt, nodeAt}
 use Rattle.routine.specs.Tables.{sheetStart, sheetNodes, sheetSets, sheetActionSets, programNodes, programSets, programAtoms, atomSets, tests, size}
@@ -29,9 +30,9 @@ use Rattle.routine.proofs.RoomLaws.{accepted-room, sheet-nodes-length}
 use Rattle.routine.proofs.TableLaws.{noStates, Tabled}
 use Rattle.progression.specs.declared.place.Place.{Place}
 use Rattle.progression.specs.Machine.{knownBy, atNode, settled, stepped}
-use Rattle.progression.proofs.MachineLaws.{run, run-on, settled-run, settled-forward}
+use Rattle.progression.proofs.MachineLaws.{goesTo, goes-on, settled-goes, settled-forward}
 use Rattle.progression.proofs.PolicyLaws.{policies, allLeft, all-policy, all-begun, all-same, Begun}
-use Rattle.progression.proofs.PlaceLaws.{NodesAt, SetsAt, nodes-left, nodes-right, row-left, row-right, Settles, ProgramsAt, programs-settle, action-settles, goal-settles}
+use Rattle.progression.proofs.PlaceLaws.{NodesAt, SetsAt, nodes-left, nodes-right, row-left, row-right, Settles, ProgramsAt, table-known, programs-settle, action-settles, goal-settles}
 use Rattle.progression.proofs.StepLaws.{tabled-step, members-possible}
 
 -- The set of possible states with one entry more.
@@ -39,19 +40,6 @@ after-more : (sheet : Sheet) (set : ℕ → Bool) (h : History) (e : Entry) → 
 unfolding setAfter
 after-more sheet set [] e = refl
 after-more sheet set (d ∷ h) e = after-more sheet (nextSet sheet set d) h e
-
--- The empty history follows every policy.
-none-follows : (p : Policy) → Follows p []
-unfolding Follows
-none-follows done = tt
-none-follows (perform a after) = tt
-
--- What is left of a policy after one reply more.
-left-more : (p : Policy) (rs : List ℕ) (r a : ℕ) (after : ℕ → Policy) → leftAfter p rs ≡ perform a after → leftAfter p (rs ++ (r ∷ [])) ≡ after r
-unfolding leftAfter
-left-more p [] r a after e = ap (λ (q : Policy). leftAfter q (r ∷ [])) e
-left-more done (s ∷ rs) r a after e = let z : _≡_ {A = ℕ} 0 1 = cc in absurd (omega arith)
-left-more (perform b on) (s ∷ rs) r a after e = left-more (on s) rs r a after e
 
 module _ (sheet : Sheet) (heads nodes sets : List ℕ) where
   -- The programs ps stand from node i on, in the memory of the sheet's tables.
@@ -77,6 +65,7 @@ module _ (sheet : Sheet) (heads nodes sets : List ℕ) where
     pub known-action : action < length (sheet .actions)
     pub after : ℕ → Policy
     pub next : leftAfter (routine sheet) (replies h) ≡ perform action after
+    pub next-left : (r : ℕ) → leftAfter (routine sheet) (replies (extended h action r)) ≡ after r
     pub onward : (r : ℕ) → Reached (extended h action r) (place + 1) (stepped heads sets set action r)
 
   pub record AtEnd (h : History) (i : ℕ) (set : States) : Type 0 where
@@ -123,7 +112,7 @@ module _ (sheet : Sheet) (heads nodes sets : List ℕ) where
     pub start-reached : Reached [] 0 (sheetStart sheet)
     unfolding Follows leftAfter routine policies sheetStart setAfter startSet ProgramsAt
     start-reached = record {
-      follows = none-follows (routine sheet);
+      follows = follows-none (routine sheet);
       left = sheet .program ∷ [];
       stands = (
         first-set,
@@ -141,11 +130,11 @@ module _ (sheet : Sheet) (heads nodes sets : List ℕ) where
     -- Where the states of a set are possible that were reached by a history.
     module _ (h : History) (i : ℕ) (set : States) (reached : Reached h i set) where
       abbrev at : ℕ → Place
-      at = run nodes (knownBy sets set)
+      at = goesTo nodes (knownBy sets set)
 
       at-on : (j : ℕ) → j < nodeMost → at j ≡ atNode (λ k. every (member (setAt sets k)) (members set)) (nodeAt nodes j) j (λ skip. at (j + 1 + skip))
       unfolding knownBy
-      at-on = run-on nodes (knownBy sets set)
+      at-on = goes-on nodes (knownBy sets set)
 
       abbrev Settling : List Program → Type 0
       Settling qs = Settles (nodeAt nodes) (setAt sets) goal-at (length (sheet .actions)) set at at-on i qs
@@ -154,12 +143,19 @@ module _ (sheet : Sheet) (heads nodes sets : List ℕ) where
       pub same-truth : (f : Epistemic) → satisfies (members set) f ≡ holdsAfter sheet h f
       same-truth f = ap (λ (ss : List ℕ). satisfies ss f) (ap members (reached .set-is) ∙ members-possible sheet few h) ∙ sym (holds-possible sheet h f)
 
+      -- What a table of the memory says is known of the set exactly if the formula of that table is known after the history.
+      pub known-after : (k : ℕ) (f : Objective) → setAt sets k ≡ setOf (λ s. holds f s) → knownBy sets set k ≡ knownAfter sheet h f
+      unfolding knownBy satisfies holdsAfter
+      known-after k f e = table-known (setAt sets) set k f e ∙ same-truth (known f)
+
       at-action : (a : ℕ) (rest : Program) (ps : List Program) → Settling (act a rest ∷ ps) → leftAfter (routine sheet) (replies h) ≡ policies sheet (act a rest ∷ ps) h → AtAction h i set
       unfolding policies policy
       at-action a rest ps s left =
           let acts = action-settles (nodeAt nodes) (setAt sets) goal-at (length (sheet .actions)) set at at-on a rest ps (s .place) (s .stands) in
-          let settles : settled nodes sets set i ≡ Place.Act (s .place) a = settled-run nodes sets set i ∙ s .same ∙ acts .0 in
+          let settles : settled nodes sets set i ≡ Place.Act (s .place) a = settled-goes nodes sets set i ∙ s .same ∙ acts .0 in
           let after : (ℕ → Policy) = λ r. policies sheet (rest ∷ ps) (extended h a r) in
+          let next-left : ((r : ℕ) → leftAfter (routine sheet) (replies (extended h a r)) ≡ after r) =
+          λ r. ap (leftAfter (routine sheet)) (map-append (λ (e : Entry). e .reply) h (entry a r ∷ [])) ∙ left-more (routine sheet) (replies h) r a after left in
           record {
             place = s .place;
             action = a;
@@ -168,11 +164,12 @@ module _ (sheet : Sheet) (heads nodes sets : List ℕ) where
             known-action = acts .2;
             after = after;
             next = left;
+            next-left = next-left;
             onward = λ r. record {
               follows = next-follows (routine sheet) h a after r (reached .follows) left;
               left = rest ∷ ps;
               stands = acts .1;
-              policy-left = ap (leftAfter (routine sheet)) (map-append (λ (e : Entry). e .reply) h (entry a r ∷ [])) ∙ left-more (routine sheet) (replies h) r a after left;
+              policy-left = next-left r;
               set-is = ap (λ (u : States). stepped heads sets u a r) (reached .set-is)
                   ∙ tabled-step sheet few heads nodes sets tabled (setAfter sheet (startSet sheet) h) (set-states sheet h) a (acts .2) r
                   ∙ ap setOf (sym (after-more sheet (startSet sheet) h (entry a r)));
@@ -182,7 +179,7 @@ module _ (sheet : Sheet) (heads nodes sets : List ℕ) where
       at-end : Settling [] → leftAfter (routine sheet) (replies h) ≡ done → AtEnd h i set
       unfolding ProgramsAt
       at-end s left = record {
-        settles = settled-run nodes sets set i ∙ s .same ∙ ap at (s .stands)
+        settles = settled-goes nodes sets set i ∙ s .same ∙ ap at (s .stands)
             ∙ goal-settles (nodeAt nodes) (setAt sets) goal-at (length (sheet .actions)) set at at-on (sheet .goal) (first-set + programAtoms (sheet .program)) goal-nodes goal-sets
             ∙ ap Place.End (same-truth (sheet .goal));
         nothing = left;
@@ -218,3 +215,33 @@ module _ (sheet : Sheet) (heads nodes sets : List ℕ) where
       -- A history by which something is reached has at most 64 actions.
       pub reached-few : length h ≤ 64
       reached-few = actions-most bytes sheet read h (reached .follows)
+
+    -- After every history that follows the routine the machine has come somewhere.
+    pub record Somewhere (h : History) : Type 0 where
+      pub node : ℕ
+      pub set : States
+      pub reached : Reached h node set
+
+    more-reached : (g h : History) → Somewhere h → Follows (routine sheet) (h ++ g) → Somewhere (h ++ g)
+    more-reached [] h s f = subst Somewhere (sym (append-nil h)) s
+    more-reached (e ∷ g) h s f =
+        go (reached-place h (s .node) (s .set) (s .reached)) (λ t. more-reached g (h ++ (e ∷ [])) t (subst (Follows (routine sheet)) same f))
+      where
+        next : (after : ℕ → Policy) × (leftAfter (routine sheet) (replies h) ≡ perform (e .action) after)
+        next = left-next (routine sheet) h e g f
+
+        same : h ++ (e ∷ g) ≡ (h ++ (e ∷ [])) ++ g
+        same = sym (append-assoc h (e ∷ []) g)
+
+        go : AtAction h (s .node) (s .set) ⊎ AtEnd h (s .node) (s .set) → (Somewhere (h ++ (e ∷ [])) → Somewhere ((h ++ (e ∷ [])) ++ g)) → Somewhere (h ++ (e ∷ g))
+        go (inr x) on =
+            let d = sym (x .nothing) ∙ next .1 in
+            let z : _≡_ {A = ℕ} 0 1 = cc in absurd (omega arith)
+        go (inl x) on =
+            let d = sym (x .next) ∙ next .1 in
+            let a : x .action ≡ e .action = cc in
+            let there : Somewhere (extended h (x .action) (e .reply)) = record { node = x .place + 1; set = _; reached = x .onward (e .reply) } in
+            subst Somewhere (sym same) (on (subst (λ (b : ℕ). Somewhere (extended h b (e .reply))) a there))
+
+    pub follows-reached : (h : History) → Follows (routine sheet) h → Somewhere h
+    follows-reached h f = more-reached h [] (record { node = 0; set = sheetStart sheet; reached = start-reached }) f

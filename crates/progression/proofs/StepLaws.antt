@@ -1,21 +1,22 @@
 -- One step on the tables of a sheet is one step of the set of possible states.
-use Prim.Native.Nat.{ℕ, zero, suc, _+_, _^_, _<_, _≤_}
+use Prim.Native.Nat.{ℕ, _+_, _^_, _<_, _≤_}
 use mathlib.Core.Path.{_≡_, refl, ap, sym, _∙_}
-use mathlib.Core.List.{List, [], _∷_, List·Memᴰ}
+use mathlib.Core.List.{List, [], _∷_}
 use mathlib.Core.Logic.{⊎-elim}
 use mathlib.Core.Bool.{Bool, true, false, _&&_}
 use native.Mathlib.Omega.{arith}
 use lib.Pow.{pow-mono}
 use lib.Dec.{ltb, eqb}
 use lib.ListN.{length, getD}
-use borrow.Author.Tests.{lt-ltb, le-ltb, ltb-true, ltb-false, eqb-true, eq-eqb, ne-eqb}
+use borrow.Author.Tests.{ltb-true, ltb-false, eqb-true, eq-eqb}
 use Rattle.lists.specs.Lists.{if_then_else_, below, exists, keep}
-use Rattle.lists.proofs.ListLaws.{two-cases, same-test, not-both, both-true, and-both, exists-mem, mem-exists, upFrom-mem, mem-upFrom, keep-mem, mem-keep}
+use Rattle.lists.proofs.ListLaws.{two-cases, same-test, not-both, both-true, and-both, exists-mem, mem-exists, upFrom-mem, mem-upFrom}
 use Rattle.states.specs.declared.States.{States}
 use Rattle.states.specs.Sets.{member, setOf, members}
 use Rattle.states.proofs.SetLaws.{member-setOf, set-cong, members-setOf}
-use Rattle.reader.specs.Syntax.{Objective, bottom, Action, change, probe, replyCount, Sheet, actionOf}
-use Rattle.reader.specs.Truth.{isState, states, truth, holds, moves, answers, allowed}
+use Rattle.reader.specs.Syntax.{Action, change, probe, replyCount, Sheet, actionOf}
+use Rattle.reader.specs.Truth.{isState, states, truth, moves, answers, allowed}
+use Rattle.reader.proofs.StateLaws.{state-below, state-listed, answer-exists}
 use Rattle.reader.proofs.StageLaws.{space-states}
 use Rattle.semantics.specs.Runs.{entry, History, step}
 use Rattle.semantics.specs.Progression.{possible, startSet, nextSet, setAfter}
@@ -26,27 +27,13 @@ use Rattle.routine.specs.Tables.{rows}
 use Rattle.routine.proofs.RoomLaws.{made-length}
 use Rattle.routine.proofs.TableLaws.{noStates, made-get, headOf, firstSet, Tabled, row-is, reply-is}
 use Rattle.progression.specs.Machine.{gathered, effect, stepped}
+use Rattle.progression.proofs.GatherLaws.{effect-rows, effect-none}
 
 -- The states of a sheet are bytes.
-state-below : (sheet : Sheet) → sheet .facts ≤ 8 → (s : ℕ) → isState sheet s ≡ true → s < 256
-unfolding isState
-state-below sheet few s t =
+state-byte : (sheet : Sheet) → sheet .facts ≤ 8 → (s : ℕ) → isState sheet s ≡ true → s < 256
+state-byte sheet few s t =
     let h : 2 ^ sheet .facts ≤ 2 ^ 8 = pow-mono few in
-    omega (arith, h, ltb-true s (2 ^ sheet .facts) t)
-
-listed : (sheet : Sheet) (s : ℕ) → isState sheet s ≡ true → List·Memᴰ s (states sheet)
-unfolding states isState
-listed sheet s t = mem-keep (isState sheet) (below (2 ^ sheet .facts)) (mem-upFrom 0 (2 ^ sheet .facts) s (omega arith) (omega (arith, ltb-true s (2 ^ sheet .facts) t))) t
-
-listed-state : (sheet : Sheet) {s : ℕ} → List·Memᴰ s (states sheet) → isState sheet s ≡ true
-unfolding states
-listed-state sheet m = keep-mem (isState sheet) (below (2 ^ sheet .facts)) m .1
-
--- Past its end a list has no element.
-get-past : {A : Type 0} (xs : List A) (j : ℕ) (d : A) → length xs ≤ j → getD xs j d ≡ d
-get-past [] j d l = refl
-get-past (x ∷ xs) zero d l = absurd (omega arith)
-get-past (x ∷ xs) (suc j) d l = get-past xs j d (omega arith)
+    omega (arith, h, state-below sheet s t)
 
 -- What is kept by a test is kept behind a weaker one.
 keep-within : {A : Type 0} (f g : A → Bool) (xs : List A) → ((a : A) → f a ≡ true → g a ≡ true) → keep f (keep g xs) ≡ keep f xs
@@ -72,15 +59,6 @@ module _ (sheet : Sheet) (few : sheet .facts ≤ 8) (sets : List ℕ) (k : ℕ) 
   abbrev after : Action → (r t : ℕ) → Bool
   after x r t = space t && exists (λ s. before s && (moves x s t && answers x r t)) (states sheet)
 
-  -- An action with rows gathers them; one without leaves the states.
-  effect-rows : (head : Head) (set : States) → head .rows < head .replies → effect sets head set ≡ gathered sets (head .rows) set
-  unfolding effect
-  effect-rows head set l = ap (λ (b : Bool). if b then gathered sets (head .rows) set else set) (lt-ltb (head .rows) (head .replies) l)
-
-  effect-none : (head : Head) (set : States) → head .replies ≤ head .rows → effect sets head set ≡ set
-  unfolding effect
-  effect-none head set l = ap (λ (b : Bool). if b then gathered sets (head .rows) set else set) (le-ltb (head .rows) (head .replies) l)
-
   gathered-member : (set : States) (t : ℕ) → t < 256 → member (gathered sets k set) t ≡ exists (λ s. member set s && member (setAt sets (k + s)) t) (below 256)
   unfolding gathered
   gathered-member set t l = member-setOf (λ u. exists (λ s. member set s && member (setAt sets (k + s)) u) (below 256)) t l
@@ -97,7 +75,7 @@ module _ (sheet : Sheet) (few : sheet .facts ≤ 8) (sets : List ℕ) (k : ℕ) 
       ap (λ (u : States). member u t) (row s (omega (arith, long, m)) ∙ made-get (λ s. setOf (λ u. space s && space u && truth f s u)) noStates 0 256 s m)
       ∙ member-setOf (λ u. space (0 + s) && space u && truth f (0 + s) u) t l ∙ ap (λ (v : ℕ). space v && space t && truth f v t) z in
       let some = gathered-member (setOf before) t l in
-      ap (λ (u : States). member u t && answers (change f) r t) (effect-rows (headOf space k (change f)) (setOf before) (omega (arith, long)))
+      ap (λ (u : States). member u t && answers (change f) r t) (sym (effect-rows sets (headOf space k (change f)) (setOf before) (omega (arith, long))))
       ∙ (same-test (member (gathered sets k (setOf before)) t && answers (change f) r t) (after (change f) r t)
       (λ h.
       let b = both-true (member (gathered sets k (setOf before)) t) (answers (change f) r t) h in
@@ -108,7 +86,7 @@ module _ (sheet : Sheet) (few : sheet .facts ≤ 8) (sets : List ℕ) (k : ℕ) 
       let q = both-true (space (w .0) && space t) (truth f (w .0) t) (sym (has (w .0) m) ∙ v .1) in
       let u = both-true (space (w .0)) (space t) (q .0) in
       and-both (space t) (exists (λ s. before s && (truth f s t && answers (change f) r t)) (states sheet)) (u .1)
-      (mem-exists (λ s. before s && (truth f s t && answers (change f) r t)) (states sheet) (listed sheet (w .0) (u .0))
+      (mem-exists (λ s. before s && (truth f s t && answers (change f) r t)) (states sheet) (state-listed sheet (w .0) (u .0))
       (and-both (before (w .0)) (truth f (w .0) t && answers (change f) r t) p (and-both (truth f (w .0) t) (answers (change f) r t) (q .1) (b .1)))))
       (λ h.
       let b = both-true (space t) (exists (λ s. before s && (truth f s t && answers (change f) r t)) (states sheet)) h in
@@ -116,21 +94,21 @@ module _ (sheet : Sheet) (few : sheet .facts ≤ 8) (sets : List ℕ) (k : ℕ) 
       let v = both-true (before (w .0)) (truth f (w .0) t && answers (change f) r t) (w .2) in
       let u = both-true (truth f (w .0) t) (answers (change f) r t) (v .1) in
       let i = inside (w .0) (v .0) in
-      let m = state-below sheet few (w .0) i in
+      let m = state-byte sheet few (w .0) i in
       and-both (member (gathered sets k (setOf before)) t) (answers (change f) r t)
       (some ∙ mem-exists (λ s. member (setOf before) s && member (setAt sets (k + s)) t) (below 256) (mem-upFrom 0 256 (w .0) (omega arith) (omega (arith, m)))
       (and-both (member (setOf before) (w .0)) (member (setAt sets (k + w .0)) t) (member-setOf before (w .0) m ∙ v .0)
       (has (w .0) m ∙ and-both (space (w .0) && space t) (truth f (w .0) t) (and-both (space (w .0)) (space t) i (b .0)) (u .0))))
       (u .1)))
   effect-answered (probe fs) row r t l =
-      ap (λ (u : States). member u t && answers (probe fs) r t) (effect-none (headOf space k (probe fs)) (setOf before) (omega arith))
+      ap (λ (u : States). member u t && answers (probe fs) r t) (sym (effect-none sets (headOf space k (probe fs)) (setOf before) (omega arith)))
       ∙ (same-test (member (setOf before) t && answers (probe fs) r t) (after (probe fs) r t)
       (λ h.
       let b = both-true (member (setOf before) t) (answers (probe fs) r t) h in
       let p : before t ≡ true = sym (member-setOf before t l) ∙ b .0 in
       let i = inside t p in
       and-both (space t) (exists (λ s. before s && (eqb s t && answers (probe fs) r t)) (states sheet)) i
-      (mem-exists (λ s. before s && (eqb s t && answers (probe fs) r t)) (states sheet) (listed sheet t i)
+      (mem-exists (λ s. before s && (eqb s t && answers (probe fs) r t)) (states sheet) (state-listed sheet t i)
       (and-both (before t) (eqb t t && answers (probe fs) r t) p (and-both (eqb t t) (answers (probe fs) r t) (eq-eqb t t refl) (b .1)))))
       (λ h.
       let b = both-true (space t) (exists (λ s. before s && (eqb s t && answers (probe fs) r t)) (states sheet)) h in
@@ -140,12 +118,6 @@ module _ (sheet : Sheet) (few : sheet .facts ≤ 8) (sets : List ℕ) (k : ℕ) 
       and-both (member (setOf before) t) (answers (probe fs) r t) (member-setOf before t l ∙ ap before (sym (eqb-true (w .0) t (u .0))) ∙ v .0) (u .1)))
 
   -- A reply that the action doesn't have is true nowhere.
-  no-reply : (x : Action) (r t : ℕ) → replyCount x ≤ r → answers x r t ≡ false
-  unfolding answers replyCount holds truth
-  no-reply (change f) zero t l = absurd (omega arith)
-  no-reply (change f) (suc r) t l = ne-eqb (suc r) 0 (λ e. omega (arith, e))
-  no-reply (probe fs) r t l = ap (λ (f : Objective). holds f t) (get-past fs r bottom l)
-
   after-none : (x : Action) (r t : ℕ) → replyCount x ≤ r → after x r t ≡ false
   after-none x r t l =
       ⊎-elim (λ (e : after x r t ≡ true).
@@ -153,7 +125,7 @@ module _ (sheet : Sheet) (few : sheet .facts ≤ 8) (sets : List ℕ) (k : ℕ) 
       let w = exists-mem (λ s. before s && (moves x s t && answers x r t)) (states sheet) (b .1) in
       let v = both-true (before (w .0)) (moves x (w .0) t && answers x r t) (w .2) in
       let u = both-true (moves x (w .0) t) (answers x r t) (v .1) in
-      not-both (u .1) (no-reply x r t l))
+      absurd (omega (arith, l, answer-exists x r t (u .1))))
       (λ e. e) (two-cases (after x r t))
 
   -- One step of the machine.

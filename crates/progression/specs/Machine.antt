@@ -11,10 +11,11 @@ use Rattle.reader.specs.Syntax.{top, fact, negation, known, end, act, branch, c
 use Rattle.routine.specs.declared.memory.Node.{Node}
 use Rattle.routine.specs.declared.memory.Head.{Head}
 use Rattle.routine.specs.Memory.{nodeMost, setAt, nodeAt, headAt}
-use Rattle.routine.specs.Tables.{sheetHeads, nodeCells, setWords}
+use Rattle.routine.specs.Tables.{sheetHeads, nodeCells, setWords, low}
 use Rattle.progression.specs.declared.place.Place.{Place}
 
--- Whether every state of a set is in set k of a memory: what is said there is known.
+-- Whether every state of a set is in set k of a memory: "a formula is known .. if it holds in the last state of every run". (2013: in every state of the knowledge
+-- state.)
 unfoldable pub knownBy : (sets : List ℕ) → States → (k : ℕ) → Bool
 unfolding every member setAt members
 knownBy sets set k = every (member (setAt sets k)) (members set)
@@ -27,8 +28,8 @@ atNode isKnown (Node.Test k met unmet) i onward = onward (if isKnown k then met 
 atNode isKnown (Node.Jump skip) i onward = onward skip
 atNode isKnown (Node.End holds) i onward = Place.End holds
 
--- Where the program settles from node i on, of which `skip` nodes are skipped; so many nodes are left from node i on. Each node leads further forward, and behind
--- the last is an end at which the goal fails.
+-- Where the program settles from node i on, the first `skip` nodes being skipped: at the program's next action, or at its end. `left` nodes are left from node i on.
+-- Each node leads further forward, and behind the last is an end at which the goal fails.
 unfoldable pub settledFrom : (nodes : List ℕ) (isKnown : ℕ → Bool) (left skip i : ℕ) → Place
 unfolding atNode nodeAt
 settledFrom nodes isKnown zero skip i = Place.End false
@@ -73,38 +74,34 @@ small = record {
   program = branch (known (fact 0)) (act 0 end) (act 1 end) (act 1 end);
 }
 
--- A set of states below 64, by its word.
-abbrev few : ℕ → States
-few w = record { w0 = w; w1 = 0; w2 = 0; w3 = 0 }
-
 -- Where both states are possible neither the fact nor its negation is known: the else-program is taken, which stands at node 3.
-else-taken : settled (nodeCells small) (setWords small) (few 3) 0 ≡ Place.Act 3 1
+else-taken : settled (nodeCells small) (setWords small) (low 3) 0 ≡ Place.Act 3 1
 unfolding small nodeCells settled setWords
 else-taken = refl
 
 -- Where the fact is known the then-program is taken; behind it the jump leads over the else-program to the rest at node 4.
-then-taken : settled (nodeCells small) (setWords small) (few 2) 0 ≡ Place.Act 1 0
+then-taken : settled (nodeCells small) (setWords small) (low 2) 0 ≡ Place.Act 1 0
 unfolding small nodeCells settled setWords
 then-taken = refl
 
-rest-reached : settled (nodeCells small) (setWords small) (few 2) 2 ≡ Place.Act 4 1
+rest-reached : settled (nodeCells small) (setWords small) (low 2) 2 ≡ Place.Act 4 1
 unfolding small nodeCells settled setWords
 rest-reached = refl
 
 -- At the end the goal is judged by the set: it fails where one possible state denies the fact.
-goal-fails : settled (nodeCells small) (setWords small) (few 3) 5 ≡ Place.End false
+goal-fails : settled (nodeCells small) (setWords small) (low 3) 5 ≡ Place.End false
 unfolding small nodeCells settled setWords
 goal-fails = refl
 
-goal-holds : settled (nodeCells small) (setWords small) (few 2) 5 ≡ Place.End true
+goal-holds : settled (nodeCells small) (setWords small) (low 2) 5 ≡ Place.End true
 unfolding small nodeCells settled setWords
 goal-holds = refl
 
 -- A reply that one possible state denies keeps the other; one that the action doesn't have keeps none.
-reply-kept : stepped (sheetHeads small) (setWords small) (few 3) 1 0 ≡ few 2
+reply-kept : stepped (sheetHeads small) (setWords small) (low 3) 1 0 ≡ low 2
 unfolding small sheetHeads stepped setWords
 reply-kept = refl
 
-no-such-reply : stepped (sheetHeads small) (setWords small) (few 3) 1 2 ≡ few 0
+no-such-reply : stepped (sheetHeads small) (setWords small) (low 3) 1 2 ≡ low 0
 unfolding small sheetHeads stepped setWords
 no-such-reply = refl

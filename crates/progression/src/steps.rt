@@ -13,7 +13,7 @@ ghost use Rattle.states.specs.Sets.{bit, member, setOf};
 ghost use Rattle.routine.specs.Memory.{setAt};
 ghost use Rattle.progression.specs.Machine.{gathered, effect as effectOf, stepped};
 
-// The states that are in set `first` + b for some bit b of a word.
+// The states that are in set `first` + b for some bit b of a word. (The bound keeps the sum from overflowing.)
 fn gather_word(sets: &[u64; SET_WORDS], first: usize, word: u64) -> States
     requires { ⌜ first < 131072 ⌝ }
     ensures { λ r. ⌜ r ≡ setOf (λ t. exists (λ b. bit word b && member (setAt (now (sets .entry)) (first + b)) t) (below 64)) ⌝ }

@@ -14,7 +14,7 @@ use Rattle.routine.specs.declared.memory.Node.{Node}
 use Rattle.routine.specs.declared.actions.Laid.{Laid}
 use Rattle.routine.specs.declared.conditions.Extent.{Extent}
 use Rattle.routine.specs.declared.program.Filled.{Filled}
-use Rattle.routine.specs.Memory.{write, words, cells, setMost, nodeMost}
+use Rattle.routine.specs.Memory.{write, words, cells, headMost, nodeMost, setMost}
 use Rattle.routine.specs.Tables.{rows, actionSets, headCells, atoms, atomSets, tests, size, programAtoms, programSets, programNodes}
 
 module _ (bytes : List ℕ) (n : ℕ) where
@@ -72,7 +72,7 @@ module _ (bytes : List ℕ) (n : ℕ) where
       pub next : ℕ
       pub stand : ActionsAt bytes n actions 13 next
       pub all : length actions ≡ count
-      pub few : count ≤ 31
+      pub few : count ≤ headMost
       pub room : length (flatMap (actionSets (member space)) actions) ≤ setMost
 
     -- Their heads and their sets are written.

@@ -1,4 +1,4 @@
--- A sheet as tables: which sets of states, which nodes and which heads it has. Formulas are evaluated once, into sets.
+-- A sheet as tables: which sets of states, which nodes and which heads it has. Every formula is evaluated into sets here, and never again in a step.
 use Prim.Native.Nat.{ℕ, suc, _+_}
 use mathlib.Core.Path.{_≡_, refl}
 use mathlib.Core.List.{List, [], _∷_, _++_, map, flatMap}
@@ -16,14 +16,15 @@ use Rattle.routine.specs.declared.memory.Node.{Node}
 use Rattle.routine.specs.declared.sheet.Prepared.{Prepared}
 use Rattle.routine.specs.Memory.{write, words, cells}
 
--- The table of each reply: the states after the effect in which it is true.
+-- The table of each reply: the states after the effect in which it is true. ("After a change .., after a probe the same state, with a reply true in it"; 2013: the states where the reply holds.)
 unfoldable pub replyTables : Action → List States
 unfolding setOf upFrom answers replyCount
 replyTables a = map (λ r. setOf (λ t. answers a r t)) (below (replyCount a))
 
 -- The other tables of actions, over a space of states.
 module _ (space : ℕ → Bool) where
-  -- The rows of an action that changes facts: for each number s below 256 the states that may follow state s.
+  -- The rows of an action that changes facts: for each number s below 256 the states that may follow state s, "after a change, one that the theory allows". (2013: its
+  -- next states.) A probe "changes no fact" and has none.
   unfoldable pub rows : Action → List States
   unfolding setOf upFrom truth
   rows (change theory) = map (λ s. setOf (λ t. space s && space t && truth theory s t)) (below 256)
@@ -40,14 +41,14 @@ module _ (space : ℕ → Bool) where
   headCells k [] = []
   headCells k (a ∷ later) = k ∷ (k + length (rows a)) ∷ replyCount a ∷ headCells (k + length (actionSets a)) later
 
--- The atoms of an epistemic formula: its parts "known" and "not known".
+-- The atoms of an epistemic formula: its parts "known" and "not known". (2013: epistemic atoms.)
 unfoldable pub atoms : Epistemic → ℕ
 atoms (known f) = 1
 atoms (not-known f) = 1
 atoms (all-of f g) = atoms f + atoms g
 atoms (any-of f g) = atoms f + atoms g
 
--- The sets of the atoms, left to right: the states in which the objective formula holds.
+-- The sets of the atoms, left to right: the states in which the objective formula holds, so that it is known where these are all that are possible.
 unfoldable pub atomSets : Epistemic → List States
 unfolding setOf holds
 atomSets (known f) = setOf (λ s. holds f s) ∷ []
@@ -55,7 +56,7 @@ atomSets (not-known f) = setOf (λ s. holds f s) ∷ []
 atomSets (all-of f g) = atomSets f ++ atomSets g
 atomSets (any-of f g) = atomSets f ++ atomSets g
 
--- The tests of an epistemic formula whose sets stand from set k on: where it holds, `met` nodes behind its last are skipped, else `unmet`.
+-- The tests of an epistemic formula whose sets stand from set k on ("and, or, not read as usual"): where it holds, `met` nodes behind its last are skipped, else `unmet`.
 unfoldable pub tests : Epistemic → (k met unmet : ℕ) → List Node
 unfolding atoms
 tests (known f) k met unmet = Node.Test k met unmet ∷ []
@@ -82,9 +83,9 @@ programSets end = []
 programSets (act a rest) = programSets rest
 programSets (branch f y z rest) = atomSets f ++ (programSets y ++ (programSets z ++ programSets rest))
 
--- The nodes of a program whose sets stand from set k on. At its end it goes on with the node behind its last. A branch tests its condition: if it holds the
--- then-program follows, behind whose end a jump leads over the else-program to the rest; else the then-program and this jump are skipped, and behind the
--- else-program stands the rest. So every jump goes forward.
+-- The nodes of a program whose sets stand from set k on. At its end it goes on with the node behind its last. "A branch goes to its then-program if its condition
+-- holds .., else to its else-program, and afterwards to its rest": where the condition holds the then-program follows, behind whose end a jump leads over the
+-- else-program to the rest; else the then-program and this jump are skipped, and behind the else-program stands the rest. So every jump goes forward.
 unfoldable pub programNodes : Program → (k : ℕ) → List Node
 unfolding tests atoms size programAtoms
 programNodes end k = []
@@ -116,7 +117,7 @@ unfoldable pub sheetHeads : Sheet → List ℕ
 unfolding headCells isState
 sheetHeads sheet = headCells (isState sheet) 0 (sheet .actions)
 
--- The start set: the states in which the start formula holds.
+-- The start set: the states in which the start formula holds, where "a run is a start state, ..". (2013: the initial knowledge state.)
 unfoldable pub sheetStart : Sheet → States
 unfolding setOf isState holds
 sheetStart sheet = setOf (λ s. isState sheet s && holds (sheet .start) s)
@@ -149,11 +150,11 @@ nodeCells sheet = flatMap cells (sheetNodes sheet)
 
 -- Examples, evaluated.
 -- A set of states below 64, by its word.
-abbrev few : ℕ → States
-few w = record { w0 = w; w1 = 0; w2 = 0; w3 = 0 }
+abbrev pub low : ℕ → States
+low w = record { w0 = w; w1 = 0; w2 = 0; w3 = 0 }
 
 -- One fact and a theory that mentions no new fact: each state may follow each. Behind the last state a row is empty.
-free-rows : take 3 (rows (λ s. ltb s 2) (change top)) ≡ few 3 ∷ few 3 ∷ few 0 ∷ []
+free-rows : take 3 (rows (λ s. ltb s 2) (change top)) ≡ low 3 ∷ low 3 ∷ low 0 ∷ []
 unfolding rows
 free-rows = refl
 

@@ -1,4 +1,4 @@
-// The sets and the heads of a sheet's actions.
+// The sets and the heads of a sheet's actions. What is read stands in the sheet, so that no refusal is ever met.
 use crate::limits::HEAD_CELLS;
 use crate::limits::SET_WORDS;
 use crate::memory::put_head;
@@ -12,6 +12,7 @@ use reader::objective_states;
 use states::States;
 ghost use Prim.Native.Nat.{_+_, _≤_, _<_};
 ghost use lib.ListN.{length};
+ghost use Rattle.routine.specs.Memory.{headMost, setMost};
 ghost use Rattle.routine.specs.Filling.{Theory, TheoryEnds, RowIs, RowsFill, Replies, RepliesFill, ActionRoom, ActionFills, ActionsRoom, ActionsFill};
 
 // Where the sets of actions end: in the sheet, and among the sets.
@@ -47,7 +48,7 @@ fn row(s: &[u8], at: usize, n: usize, space: States, state: u8) -> States
 
 // Writes the rows of the theory at a position, from set k on.
 fn fill_rows(s: &[u8], at: usize, n: usize, space: States, k: usize, sets: &mut [u64; SET_WORDS])
-    requires { ⌜ (length (now s) ≤ 1024) × (k + 256 ≤ 10240) × Theory (now s) n at ⌝ }
+    requires { ⌜ (length (now s) ≤ 1024) × (k + 256 ≤ setMost) × Theory (now s) n at ⌝ }
     ensures { λ r. ⌜ RowsFill (now (s .entry)) n at space k (now (sets .entry)) (now (sets .exit)) ⌝ }
 {
     for old in 0..256usize {
@@ -95,7 +96,7 @@ fn fill_action(
     heads: &mut [u16; HEAD_CELLS],
     sets: &mut [u64; SET_WORDS],
 ) -> Laid
-    requires { ⌜ (length (now s) ≤ 1024) × (a < 31) × ActionRoom (now s) n space at k ⌝ }
+    requires { ⌜ (length (now s) ≤ 1024) × (a < headMost) × ActionRoom (now s) n space at k ⌝ }
     ensures { λ r. ⌜ ActionFills (now (s .entry)) n space at a k (now (heads .entry)) (now (heads .exit)) (now (sets .entry)) (now (sets .exit)) r ⌝ }
 {
     match action_node(s, at) {

@@ -1,4 +1,4 @@
-// The tests of epistemic formulas and the sets of their atoms.
+// The tests of epistemic formulas and the sets of their atoms. What is read stands in the sheet, so that no refusal is ever met.
 use crate::limits::NODE_CELLS;
 use crate::limits::SET_WORDS;
 use crate::memory::Node;
@@ -11,6 +11,7 @@ use reader::epistemic_node;
 use reader::objective_states;
 ghost use Prim.Native.Nat.{_≤_, _<_};
 ghost use lib.ListN.{length};
+ghost use Rattle.routine.specs.Memory.{nodeMost, setMost};
 ghost use Rattle.routine.specs.Filling.{Atom, AtomMeasures, AtomFills, Formula, Measures, FormulaRoom, FormulaFills};
 
 // How many atoms an epistemic formula has, and where it ends.
@@ -70,7 +71,7 @@ fn fill_atom(
     nodes: &mut [u16; NODE_CELLS],
     sets: &mut [u64; SET_WORDS],
 ) -> Extent
-    requires { ⌜ (length (now s) ≤ 1024) × (base < 2048) × (k < 10240) × (met < 65536) × (unmet < 65536) × Atom (now s) n at ⌝ }
+    requires { ⌜ (length (now s) ≤ 1024) × (base < nodeMost) × (k < setMost) × (met < 65536) × (unmet < 65536) × Atom (now s) n at ⌝ }
     ensures { λ r. ⌜ AtomFills (now (s .entry)) n at base k met unmet (now (nodes .entry)) (now (nodes .exit)) (now (sets .entry)) (now (sets .exit)) r ⌝ }
 {
     match objective_states(s, at, n, View::States) {

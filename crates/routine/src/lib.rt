@@ -6,12 +6,10 @@ mod memory;
 mod program;
 mod sheet;
 
-pub use limits::ACTIONS;
 pub use limits::HEAD_CELLS;
 pub use limits::NODE_CELLS;
 pub use limits::NODES;
 pub use limits::SET_WORDS;
-pub use limits::SETS;
 pub use memory::Head;
 pub use memory::Node;
 pub use memory::head_at;

@@ -1,7 +1,7 @@
 // The sizes of the memory that a routine's tables take.
 
 // The most actions of a sheet, and the numbers of their heads.
-pub const ACTIONS: usize = 31;
+pub(crate) const ACTIONS: usize = 31;
 
 pub const HEAD_CELLS: usize = 93;
 
@@ -11,6 +11,6 @@ pub const NODES: usize = 2048;
 pub const NODE_CELLS: usize = 8192;
 
 // The sets of states, and their words.
-pub const SETS: usize = 10240;
+pub(crate) const SETS: usize = 10240;
 
 pub const SET_WORDS: usize = 40960;

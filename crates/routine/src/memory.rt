@@ -9,7 +9,7 @@ use states::States;
 ghost use mathlib.Core.Path.{_≡_};
 ghost use mathlib.Core.List.{[], _∷_};
 ghost use Prim.Native.Nat.{_*_, _<_};
-ghost use Rattle.routine.specs.Memory.{write, words, cells, Small, setAt, nodeAt, headAt};
+ghost use Rattle.routine.specs.Memory.{write, words, cells, Small, headMost, nodeMost, setMost, setAt, nodeAt, headAt};
 
 // A node: an action by its number; a test of an atom by the number of its set, and how many nodes are skipped if it is
 // known and if it isn't; a jump over so many nodes; the end, and whether the goal holds there.
@@ -94,9 +94,9 @@ pub fn head_at(heads: &[u16; HEAD_CELLS], a: usize) -> Head
     }
 }
 
-// Writes set k.
+// Writes set k. (Places are counted one by one, as `write` does.)
 pub(crate) fn put_set(sets: &mut [u64; SET_WORDS], k: usize, set: States)
-    requires { ⌜ k < 10240 ⌝ }
+    requires { ⌜ k < setMost ⌝ }
     ensures { λ r. ⌜ now (sets .exit) ≡ write (now (sets .entry)) (4 * k) (words set) ⌝ }
 {
     sets[4 * k] = set.w0;
@@ -114,7 +114,7 @@ fn put_cells(
     met: usize,
     unmet: usize,
 )
-    requires { ⌜ (i < 2048) × (operand < 65536) × (met < 65536) × (unmet < 65536) ⌝ }
+    requires { ⌜ (i < nodeMost) × (operand < 65536) × (met < 65536) × (unmet < 65536) ⌝ }
     ensures { λ r. ⌜ now (nodes .exit) ≡ write (now (nodes .entry)) (4 * i) (kind ∷ operand ∷ met ∷ unmet ∷ []) ⌝ }
 {
     nodes[4 * i] = kind;
@@ -125,7 +125,7 @@ fn put_cells(
 
 // Writes node i.
 pub(crate) fn put_node(nodes: &mut [u16; NODE_CELLS], i: usize, node: Node)
-    requires { ⌜ (i < 2048) × Small node ⌝ }
+    requires { ⌜ (i < nodeMost) × Small node ⌝ }
     ensures { λ r. ⌜ now (nodes .exit) ≡ write (now (nodes .entry)) (4 * i) (cells node) ⌝ }
 {
     match node {
@@ -150,7 +150,7 @@ pub(crate) fn put_head(
     replies: usize,
     count: usize,
 )
-    requires { ⌜ (a < 31) × (rows < 65536) × (replies < 65536) × (count < 65536) ⌝ }
+    requires { ⌜ (a < headMost) × (rows < 65536) × (replies < 65536) × (count < 65536) ⌝ }
     ensures { λ r. ⌜ now (heads .exit) ≡ write (now (heads .entry)) (3 * a) (rows ∷ replies ∷ count ∷ []) ⌝ }
 {
     heads[3 * a] = rows as u16;

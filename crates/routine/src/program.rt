@@ -1,4 +1,4 @@
-// The nodes of a program and the sets of its conditions.
+// The nodes of a program and the sets of its conditions. What is read stands in the sheet, so that no refusal is ever met.
 use crate::conditions::fill_tests;
 use crate::conditions::measure;
 use crate::limits::NODE_CELLS;

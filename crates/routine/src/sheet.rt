@@ -29,7 +29,7 @@ pub enum Prepared {
     Refused(Refusal),
 }
 
-// Writes the tables of an accepted sheet.
+// Writes the tables of an accepted sheet. Its parts stand in it, so that no refusal is ever met.
 fn fill(
     s: &[u8],
     heads: &mut [u16; HEAD_CELLS],

@@ -44,10 +44,17 @@ full-left done (e ∷ h) f = absurd f
 full-left (perform a after) (e ∷ h) f = full-left (after (e .reply)) h (f .1)
 
 -- The empty history follows every policy.
-follows-none : (p : Policy) → Follows p []
+pub follows-none : (p : Policy) → Follows p []
 unfolding Follows
 follows-none done = tt
 follows-none (perform a after) = tt
+
+-- What is left after one reply more.
+pub left-more : (p : Policy) (rs : List ℕ) (r a : ℕ) (after : ℕ → Policy) → leftAfter p rs ≡ perform a after → leftAfter p (rs ++ (r ∷ [])) ≡ after r
+unfolding leftAfter
+left-more p [] r a after e = ap (λ (q : Policy). leftAfter q (r ∷ [])) e
+left-more done (s ∷ rs) r a after e = let z : _≡_ {A = ℕ} 0 1 = cc in absurd (omega arith)
+left-more (perform b on) (s ∷ rs) r a after e = left-more (on s) rs r a after e
 
 -- What is left names the action of every longer history, and each of its replies makes one.
 pub left-next : (p : Policy) (h : History) (e : Entry) (g : History) → Follows p (h ++ (e ∷ g)) → (after : ℕ → Policy) × (leftAfter p (replies h) ≡ perform (e .action) after)

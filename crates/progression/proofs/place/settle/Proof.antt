@@ -7,18 +7,18 @@ use borrow.Author.Needs.{needs}
 use Rattle.routine.specs.declared.memory.Node.{Node}
 use Rattle.routine.specs.Memory.{Small, nodeAt}
 use Rattle.progression.specs.Machine.{knownBy, settled, Inside}
-use Rattle.progression.proofs.MachineLaws.{run, run-act, run-end, run-jump, run-met, run-unmet, run-past, settled-run, jump-small, test-small}
+use Rattle.progression.proofs.MachineLaws.{goesTo, goes-act, goes-end, goes-jump, goes-met, goes-unmet, goes-past, settled-goes, jump-small, test-small}
 use Rattle.progression.proofs.place.settle.Statement.{statement}
 use Rattle.progression.proofs.place.settle.Tie as tie
 
 abbrev Inv-loop : tie.InvT-loop
-Inv-loop nodes sets set at i₀ i = settled nodes sets set at ≡ run nodes (knownBy sets set) i
+Inv-loop nodes sets set at i₀ i = settled nodes sets set at ≡ goesTo nodes (knownBy sets set) i
 
 abbrev μ-loop : tie.MeasureT-loop
 μ-loop nodes sets set at i₀ i = 2048 - i
 
 loop-holds : tie.Need-loop-holds Inv-loop μ-loop
-loop-holds c = settled-run _ _ _ _
+loop-holds c = settled-goes _ _ _ _
 
 node-at-requires : tie.Need-node-at-requires Inv-loop μ-loop
 node-at-requires c κs = search needs
@@ -32,7 +32,7 @@ returns c =
     let a = c .before .before .before .before .before .before .args in
     let l = c .before .before .before .before .before .loop in
     let e : nodeAt (now (a .nodes)) (l .i) ≡ Node.Act (c .before .a .given .0 .0) = sym (c .before .before .before .node-at .ensures .0) ∙ c .before .a .given .1 in (
-      sym (l .inv ∙ run-act (now (a .nodes)) (knownBy (now (a .sets)) (a .set)) (l .i) (omega arith) _ e),
+      sym (l .inv ∙ goes-act (now (a .nodes)) (knownBy (now (a .sets)) (a .set)) (l .i) (omega arith) _ e),
       (omega arith, subst Small (c .before .a .given .1) (c .before .before .before .node-at .ensures .1)),
     )
 
@@ -45,7 +45,7 @@ returns-2 c =
     let a = c .before .before .before .before .before .before .args in
     let l = c .before .before .before .before .before .loop in
     let e : nodeAt (now (a .nodes)) (l .i) ≡ Node.End (c .before .holds .given .0 .0) = sym (c .before .before .before .node-at .ensures .0) ∙ c .before .holds .given .1 in
-    (sym (l .inv ∙ run-end (now (a .nodes)) (knownBy (now (a .sets)) (a .set)) (l .i) (omega arith) _ e), tt)
+    (sym (l .inv ∙ goes-end (now (a .nodes)) (knownBy (now (a .sets)) (a .set)) (l .i) (omega arith) _ e), tt)
 
 enum-known-skip : tie.Need-enum-known-skip Inv-loop μ-loop
 enum-known-skip c = search needs
@@ -64,7 +64,7 @@ loop-again c =
     let a = c .before .before .before .before .before .before .args in
     let l = c .before .before .before .before .before .loop in
     let e : nodeAt (now (a .nodes)) (l .i) ≡ Node.Jump (c .before .skip .given .0 .0) = sym (c .before .before .before .node-at .ensures .0) ∙ c .before .skip .given .1 in
-    l .inv ∙ run-jump (now (a .nodes)) (knownBy (now (a .sets)) (a .set)) (l .i) (omega arith) _ e
+    l .inv ∙ goes-jump (now (a .nodes)) (knownBy (now (a .sets)) (a .set)) (l .i) (omega arith) _ e
 
 enum-known-k : tie.Need-enum-known-k Inv-loop μ-loop
 enum-known-k c = search needs
@@ -87,7 +87,7 @@ loop-again-2 c =
     let l = c .before .before .before .before .before .before .before .loop in
     let k = c .before .before .before .k .given in
     let e : nodeAt (now (a .nodes)) (l .i) ≡ Node.Test (k .0 .0) (k .0 .1 .0) (k .0 .1 .1 .0) = sym (c .before .before .before .before .before .node-at .ensures .0) ∙ k .1 in
-    l .inv ∙ run-met (now (a .nodes)) (knownBy (now (a .sets)) (a .set)) (l .i) (omega arith) _ _ _ e (sym (c .before .known .ensures) ∙ c .if1 .taken)
+    l .inv ∙ goes-met (now (a .nodes)) (knownBy (now (a .sets)) (a .set)) (l .i) (omega arith) _ _ _ e (sym (c .before .known .ensures) ∙ c .if1 .taken)
 
 add-i-5 : tie.Need-add-i-5 Inv-loop μ-loop
 add-i-5 c = search needs
@@ -104,14 +104,14 @@ loop-again-3 c =
     let l = c .before .before .before .before .before .before .before .loop in
     let k = c .before .before .before .k .given in
     let e : nodeAt (now (a .nodes)) (l .i) ≡ Node.Test (k .0 .0) (k .0 .1 .0) (k .0 .1 .1 .0) = sym (c .before .before .before .before .before .node-at .ensures .0) ∙ k .1 in
-    l .inv ∙ run-unmet (now (a .nodes)) (knownBy (now (a .sets)) (a .set)) (l .i) (omega arith) _ _ _ e (sym (c .before .known .ensures) ∙ c .if1 .left)
+    l .inv ∙ goes-unmet (now (a .nodes)) (knownBy (now (a .sets)) (a .set)) (l .i) (omega arith) _ _ _ e (sym (c .before .known .ensures) ∙ c .if1 .left)
 
 returns-3 : tie.Need-returns-3 Inv-loop μ-loop
 unfolding Inside
 returns-3 c =
     let a = c .before .before .args in
     let l = c .before .loop in
-    (sym (l .inv ∙ run-past (now (a .nodes)) (knownBy (now (a .sets)) (a .set)) (l .i) (omega arith)), tt)
+    (sym (l .inv ∙ goes-past (now (a .nodes)) (knownBy (now (a .sets)) (a .set)) (l .i) (omega arith)), tt)
 
 pub settle-spec : {M : Type 1} → statement M
 settle-spec =

@@ -1,3 +1,4 @@
+-- `routine::fill` meets its contract: each part is written where PrepareLaws says. Assumes nothing.
 use native.Mathlib.Omega.{arith}
 use borrow.Author.Needs.{needs}
 use Rattle.reader.proofs.SheetLaws.{accepted-length}
@@ -18,29 +19,23 @@ use Rattle.routine.proofs.program.fill_program.Reads as fill-program-re
 use Rattle.states.proofs.States.all.Reads as all-reads
 use Rattle.states.proofs.States.intersect.Reads as intersect-reads
 
--- src/sheet.rt:42:40
 header-requires : tie.Need-header-requires
 header-requires c κs = search needs
 
--- src/sheet.rt:42:28
 enum-known-n : tie.Need-enum-known-n
 enum-known-n c = search needs
 
--- src/sheet.rt:43:34
 enum-told : tie.Need-enum-told
 enum-told c = search needs
 
--- src/sheet.rt:43:9
 returns : tie.Need-returns
 returns c =
     let a = c .before .before .before .before .args in
     header-refused (a .s .now) (c .before .before .before .before .pre .sheet) (c .before .before .before .before .pre .read) _ _ (c .before .before .header .ensures) (c .enum-told .given .1)
 
--- src/sheet.rt:45:9
 all-requires : tie.Need-all-requires
 all-requires c κs = search needs
 
--- src/sheet.rt:46:9
 fill-actions-requires : tie.Need-fill-actions-requires
 fill-actions-requires c κs =
     let a = c .before .before .before .before .before .before .before .before .args in
@@ -52,19 +47,15 @@ fill-actions-requires c κs =
     let space = c .before .before .all .result in
     (accepted-length (a .s .now) sheet read, actions-room (a .s .now) sheet read n count space (found .0) (found .1) (c .before .before .all .ensures))
 
--- src/sheet.rt:47:44
 objective-states-requires : tie.Need-objective-states-requires
 objective-states-requires c κs = search needs
 
--- src/sheet.rt:47:26
 enum-known-start : tie.Need-enum-known-start
 enum-known-start c = search needs
 
--- src/sheet.rt:48:34
 enum-told-2 : tie.Need-enum-told-2
 enum-told-2 c = search needs
 
--- src/sheet.rt:48:9
 returns-2 : tie.Need-returns-2
 returns-2 c =
     let a = c .before .before .before .before .before .before .before .before .before .before .before .before .args in
@@ -77,7 +68,6 @@ returns-2 c =
     let laid = c .before .before .before .fill-actions .result in
     start-refused (a .s .now) sheet read n count space (found .0) (found .1) (c .before .before .before .before .before .before .all .ensures) _ _ _ _ laid (c .before .before .before .fill-actions .ensures) _ _ (c .before .before .objective-states .ensures) (c .enum-told2 .given .1)
 
--- src/sheet.rt:50:9
 measure-requires : tie.Need-measure-requires
 measure-requires c κs =
     let a = c .before .before .before .before .before .before .before .before .before .before .before .before .before .args in
@@ -93,7 +83,6 @@ measure-requires c κs =
     let got = start-found (a .s .now) sheet read n count space (found .0) (found .1) (c .before .before .before .before .before .before .before .all .ensures) _ _ _ _ laid (c .before .before .before .before .fill-actions .ensures) _ start goal-at (c .before .before .before .objective-states .ensures) (c .before .start .given .1) in
     (accepted-length (a .s .now) sheet read, goal-formula (a .s .now) sheet read n count space (found .0) (found .1) (c .before .before .before .before .before .before .before .all .ensures) _ _ _ _ laid (c .before .before .before .before .fill-actions .ensures) start goal-at got)
 
--- src/sheet.rt:51:9
 fill-program-requires : tie.Need-fill-program-requires
 fill-program-requires c κs =
     let a = c .before .before .before .before .before .before .before .before .before .before .before .before .before .before .before .before .args in
@@ -109,7 +98,6 @@ fill-program-requires c κs =
     let got = start-found (a .s .now) sheet read n count space (found .0) (found .1) (c .before .before .before .before .before .before .before .before .before .before .all .ensures) _ _ _ _ laid (c .before .before .before .before .before .before .before .fill-actions .ensures) _ start goal-at (c .before .before .before .before .before .before .objective-states .ensures) (c .before .before .before .before .start .given .1) in
     (accepted-length (a .s .now) sheet read, program-room (a .s .now) sheet read n count space (found .0) (found .1) (c .before .before .before .before .before .before .before .before .before .before .all .ensures) _ _ _ _ laid (c .before .before .before .before .before .before .before .fill-actions .ensures) start goal-at got (c .before .before .measure .result) (c .before .before .measure .ensures))
 
--- src/sheet.rt:52:5
 fill-tests-requires : tie.Need-fill-tests-requires
 fill-tests-requires c κs =
     let a = c .before .before .before .before .before .before .before .before .before .before .before .before .before .before .before .before .before .before .before .args in
@@ -125,7 +113,6 @@ fill-tests-requires c κs =
     let got = start-found (a .s .now) sheet read n count space (found .0) (found .1) (c .before .before .before .before .before .before .before .before .before .before .before .before .before .all .ensures) _ _ _ _ laid (c .before .before .before .before .before .before .before .before .before .before .fill-actions .ensures) _ start goal-at (c .before .before .before .before .before .before .before .before .before .objective-states .ensures) (c .before .before .before .before .before .before .before .start .given .1) in
     (accepted-length (a .s .now) sheet read, goal-room (a .s .now) sheet read n count space (found .0) (found .1) (c .before .before .before .before .before .before .before .before .before .before .before .before .before .all .ensures) _ _ _ _ laid (c .before .before .before .before .before .before .before .before .before .before .fill-actions .ensures) start goal-at got (c .before .before .before .before .before .measure .result) (c .before .before .before .before .before .measure .ensures) _ _ _ (c .before .before .fill-program .result) (c .before .before .fill-program .ensures))
 
--- src/sheet.rt:64:16
 add-ends : tie.Need-add-ends
 add-ends c =
     let a = c .before .before .before .before .before .before .before .before .before .before .before .before .before .before .before .before .before .before .before .before .before .before .args in
@@ -141,7 +128,6 @@ add-ends c =
     let got = start-found (a .s .now) sheet read n count space (found .0) (found .1) (c .before .before .before .before .before .before .before .before .before .before .before .before .before .before .before .before .all .ensures) _ _ _ _ laid (c .before .before .before .before .before .before .before .before .before .before .before .before .before .fill-actions .ensures) _ start goal-at (c .before .before .before .before .before .before .before .before .before .before .before .before .objective-states .ensures) (c .before .before .before .before .before .before .before .before .before .before .start .given .1) in
     let e = ends-inside (a .s .now) sheet read n count space (found .0) (found .1) (c .before .before .before .before .before .before .before .before .before .before .before .before .before .before .before .before .all .ensures) _ _ _ _ laid (c .before .before .before .before .before .before .before .before .before .before .before .before .before .fill-actions .ensures) start goal-at got (c .before .before .before .before .before .before .before .before .measure .result) (c .before .before .before .before .before .before .before .before .measure .ensures) _ _ _ (c .before .before .before .before .before .fill-program .result) (c .before .before .before .before .before .fill-program .ensures) in omega (arith, e)
 
--- src/sheet.rt:65:5
 put-node-requires : tie.Need-put-node-requires
 unfolding Small
 put-node-requires c κs =
@@ -158,7 +144,6 @@ put-node-requires c κs =
     let got = start-found (a .s .now) sheet read n count space (found .0) (found .1) (c .before .before .before .before .before .before .before .before .before .before .before .before .before .before .before .before .before .all .ensures) _ _ _ _ laid (c .before .before .before .before .before .before .before .before .before .before .before .before .before .before .fill-actions .ensures) _ start goal-at (c .before .before .before .before .before .before .before .before .before .before .before .before .before .objective-states .ensures) (c .before .before .before .before .before .before .before .before .before .before .before .start .given .1) in
     let e = ends-inside (a .s .now) sheet read n count space (found .0) (found .1) (c .before .before .before .before .before .before .before .before .before .before .before .before .before .before .before .before .before .all .ensures) _ _ _ _ laid (c .before .before .before .before .before .before .before .before .before .before .before .before .before .before .fill-actions .ensures) start goal-at got (c .before .before .before .before .before .before .before .before .before .measure .result) (c .before .before .before .before .before .before .before .before .before .measure .ensures) _ _ _ (c .before .before .before .before .before .before .fill-program .result) (c .before .before .before .before .before .before .fill-program .ensures) in (omega (arith, e), tt)
 
--- src/sheet.rt:66:21
 add-put-node : tie.Need-add-put-node
 add-put-node c =
     let a = c .before .before .before .before .before .before .before .before .before .before .before .before .before .before .before .before .before .before .before .before .before .before .before .before .before .args in
@@ -174,7 +159,6 @@ add-put-node c =
     let got = start-found (a .s .now) sheet read n count space (found .0) (found .1) (c .before .before .before .before .before .before .before .before .before .before .before .before .before .before .before .before .before .before .before .all .ensures) _ _ _ _ laid (c .before .before .before .before .before .before .before .before .before .before .before .before .before .before .before .before .fill-actions .ensures) _ start goal-at (c .before .before .before .before .before .before .before .before .before .before .before .before .before .before .before .objective-states .ensures) (c .before .before .before .before .before .before .before .before .before .before .before .before .before .start .given .1) in
     let e = ends-inside (a .s .now) sheet read n count space (found .0) (found .1) (c .before .before .before .before .before .before .before .before .before .before .before .before .before .before .before .before .before .before .before .all .ensures) _ _ _ _ laid (c .before .before .before .before .before .before .before .before .before .before .before .before .before .before .before .before .fill-actions .ensures) start goal-at got (c .before .before .before .before .before .before .before .before .before .before .before .measure .result) (c .before .before .before .before .before .before .before .before .before .before .before .measure .ensures) _ _ _ (c .before .before .before .before .before .before .before .before .fill-program .result) (c .before .before .before .before .before .before .before .before .fill-program .ensures) in omega (arith, e)
 
--- src/sheet.rt:66:5
 put-node-requires-2 : tie.Need-put-node-requires-2
 unfolding Small
 put-node-requires-2 c κs =
@@ -191,11 +175,9 @@ put-node-requires-2 c κs =
     let got = start-found (a .s .now) sheet read n count space (found .0) (found .1) (c .before .before .before .before .before .before .before .before .before .before .before .before .before .before .before .before .before .before .before .all .ensures) _ _ _ _ laid (c .before .before .before .before .before .before .before .before .before .before .before .before .before .before .before .before .fill-actions .ensures) _ start goal-at (c .before .before .before .before .before .before .before .before .before .before .before .before .before .before .before .objective-states .ensures) (c .before .before .before .before .before .before .before .before .before .before .before .before .before .start .given .1) in
     let e = ends-inside (a .s .now) sheet read n count space (found .0) (found .1) (c .before .before .before .before .before .before .before .before .before .before .before .before .before .before .before .before .before .before .before .all .ensures) _ _ _ _ laid (c .before .before .before .before .before .before .before .before .before .before .before .before .before .before .before .before .fill-actions .ensures) start goal-at got (c .before .before .before .before .before .before .before .before .before .before .before .measure .result) (c .before .before .before .before .before .before .before .before .before .before .before .measure .ensures) _ _ _ (c .before .before .before .before .before .before .before .before .fill-program .result) (c .before .before .before .before .before .before .before .before .fill-program .ensures) in (omega (arith, e), tt)
 
--- src/sheet.rt:67:21
 intersect-requires : tie.Need-intersect-requires
 intersect-requires c κs = search needs
 
--- src/sheet.rt:33:1
 returns-3 : tie.Need-returns-3
 unfolding preparedOf
 returns-3 c =

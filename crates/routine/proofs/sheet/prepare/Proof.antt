@@ -1,3 +1,4 @@
+-- `routine::prepare` meets its contract: it fills the memory for an accepted sheet and nothing else. Assumes nothing.
 use mathlib.Core.Path.{ap, sym, _∙_}
 use borrow.Author.Needs.{needs}
 use Rattle.reader.specs.Answers.{answerOf}
@@ -10,24 +11,19 @@ use Rattle.routine.proofs.sheet.prepare.Lts as lts
 use Rattle.reader.proofs.read.Reads as read-reads
 use Rattle.routine.proofs.sheet.fill.Reads as fill-reads
 
--- src/sheet.rt:80:11
 read-requires : tie.Need-read-requires
 read-requires c κs = search needs
 
--- src/sheet.rt:81:25
 enum-known-r : tie.Need-enum-known-r
 enum-known-r c = search needs
 
--- src/sheet.rt:82:37
 enum-told : tie.Need-enum-told
 enum-told c = search needs
 
--- src/sheet.rt:82:29
 fill-requires : tie.Need-fill-requires
 unfolding answerOf
 fill-requires c κs = some-sheet (c .before .before .before .before .before .before .before .args .s .now) (sym (ap answerOf (c .before .before .before .enum-told .given .1)) ∙ c .before .before .before .before .before .read .ensures)
 
--- src/sheet.rt:72:1
 returns : tie.Need-returns
 unfolding answerOf preparedOf
 returns c =
@@ -35,7 +31,6 @@ returns c =
     let e = sym (ap answerOf (c .before .r .given .1)) ∙ c .before .before .before .read .ensures in
     (refused-start bytes _ e, refused-memory bytes _ e sheetHeads _, refused-memory bytes _ e nodeCells _, refused-memory bytes _ e setWords _)
 
--- src/sheet.rt:72:1
 returns-2 : tie.Need-returns-2
 returns-2 c = search needs
 
