@@ -1,10 +1,11 @@
 -- Laws of tests and of lists: what a test tells, and who is a member. Assumes nothing.
 use Prim.Native.Nat.{ℕ, zero, suc, _+_, _≤_, _<_}
-use mathlib.Core.Path.{_≡_, refl, sym, ap, subst, _∙_}
-use mathlib.Core.List.{List, [], _∷_, flatMap, List·Memᴰ, List·Memᴰ·head, List·Memᴰ·tail, List·Memᴰ·not-nil, List·Memᴰ·cases-cons, List·Memᴰ·append-cases, Memᴰ·append-left, Memᴰ·append-right}
+use mathlib.Core.Path.{_≡_, refl, sym, ap, ap₂, subst, _∙_}
+use mathlib.Core.List.{List, [], _∷_, _++_, map, flatMap, List·Memᴰ, List·Memᴰ·head, List·Memᴰ·tail, List·Memᴰ·not-nil, List·Memᴰ·cases-cons, List·Memᴰ·append-cases, Memᴰ·append-left, Memᴰ·append-right}
 use mathlib.Core.Logic.{_⊎_, inl, inr, ⊎-elim}
 use mathlib.Core.Bool.{Bool, true, false, not, _&&_, _||_}
 use native.Mathlib.Omega.{arith}
+use lib.ListN.{length, getD}
 use native.Mathlib.Nat.{eq-or-lt-of-le}
 use Rattle.lists.specs.Lists.{if_then_else_, upFrom, every, exists, keep, nonempty}
 
@@ -163,3 +164,48 @@ unfolding upFrom
 mem-upFrom a zero n p q = absurd (omega arith)
 mem-upFrom a (suc k) n p q =
     ⊎-elim (λ (e : a ≡ n). List·Memᴰ·head (sym e)) (λ h. List·Memᴰ·tail (mem-upFrom (suc a) k n h (omega arith))) (eq-or-lt-of-le p)
+
+-- Tests that agree on a list agree on all its elements, and on whether there is one.
+pub every-same : {A : Type 0} (f g : A → Bool) (xs : List A) → ((a : A) → List·Memᴰ a xs → f a ≡ g a) → every f xs ≡ every g xs
+unfolding every
+every-same f g [] e = refl
+every-same f g (x ∷ xs) e = ap₂ _&&_ (e x (List·Memᴰ·head refl)) (every-same f g xs (λ a m. e a (List·Memᴰ·tail m)))
+
+pub exists-same : {A : Type 0} (f g : A → Bool) (xs : List A) → ((a : A) → List·Memᴰ a xs → f a ≡ g a) → exists f xs ≡ exists g xs
+unfolding exists
+exists-same f g [] e = refl
+exists-same f g (x ∷ xs) e = ap₂ _||_ (e x (List·Memᴰ·head refl)) (exists-same f g xs (λ a m. e a (List·Memᴰ·tail m)))
+
+-- What is kept by a test is kept behind a weaker one.
+pub keep-within : {A : Type 0} (f g : A → Bool) (xs : List A) → ((a : A) → f a ≡ true → g a ≡ true) → keep f (keep g xs) ≡ keep f xs
+unfolding keep if_then_else_
+keep-within f g [] w = refl
+keep-within f g (x ∷ xs) w = go (g x) refl (f x) refl (keep-within f g xs w)
+  where
+    go : (b : Bool) → g x ≡ b → (c : Bool) → f x ≡ c → keep f (keep g xs) ≡ keep f xs → keep f (if b then x ∷ keep g xs else keep g xs) ≡ (if c then x ∷ keep f xs else keep f xs)
+    go true e true d h = rw d (ap (λ (ys : List _). x ∷ ys) h)
+    go true e false d h = rw d h
+    go false e true d h = not-both (w x d) e
+    go false e false d h = h
+
+-- An element behind the first of two lists.
+pub append-past : {A : Type 0} (xs ys : List A) (d : A) (j : ℕ) → getD (xs ++ ys) (length xs + j) d ≡ getD ys j d
+append-past [] ys d j = let e : 0 + j ≡ j = omega arith in ap (λ (v : ℕ). getD ys v d) e
+append-past (x ∷ xs) ys d j = let e : suc (length xs) + j ≡ suc (length xs + j) = omega arith in ap (λ (v : ℕ). getD (x ∷ (xs ++ ys)) v d) e ∙ append-past xs ys d j
+
+-- What is made of the k numbers from a on: so many, which one, and by what alone.
+pub made-length : {A : Type 0} (make : ℕ → A) (a k : ℕ) → length (map make (upFrom a k)) ≡ k
+unfolding upFrom
+made-length make a zero = refl
+made-length make a (suc k) = ap suc (made-length make (suc a) k)
+
+pub made-get : {A : Type 0} (make : ℕ → A) (d : A) (a k j : ℕ) → j < k → getD (map make (upFrom a k)) j d ≡ make (a + j)
+unfolding upFrom
+made-get make d a zero j l = absurd (omega arith)
+made-get make d a (suc k) zero l = let e : a ≡ a + 0 = omega arith in ap make e
+made-get make d a (suc k) (suc j) l = let e : suc a + j ≡ a + suc j = omega arith in made-get make d (suc a) k j (omega arith) ∙ ap make e
+
+pub made-same : {A : Type 0} (f g : ℕ → A) (a k : ℕ) → ((s : ℕ) → s < a + k → f s ≡ g s) → map f (upFrom a k) ≡ map g (upFrom a k)
+unfolding upFrom
+made-same f g a zero e = refl
+made-same f g a (suc k) e = ap₂ (λ (x : _) (xs : List _). x ∷ xs) (e a (omega arith)) (made-same f g (suc a) k (λ s l. e s (omega arith)))

@@ -2,7 +2,7 @@
 use Prim.Native.Nat.{ℕ, zero, suc, _+_, _-_, _*_, _^_, _≤_, _<_}
 use mathlib.Core.Path.{_≡_, refl, sym, ap, ap₂, _∙_}
 use mathlib.Core.Logic.{⊎-elim}
-use mathlib.Core.List.{List, List·Memᴰ, List·Memᴰ·head, List·Memᴰ·tail, [], _∷_}
+use mathlib.Core.List.{List, List·Memᴰ}
 use mathlib.Core.Bool.{Bool, true, false, not, _&&_, _||_}
 use native.Mathlib.Omega.{arith}
 use native.Mathlib.Decide.{ℕ-discrete}
@@ -11,7 +11,7 @@ use lib.Dec.{eqb, ltb}
 use lib.Bits.{bitAnd}
 use lib.Count.{trailingZeros}
 use Rattle.lists.specs.Lists.{if_then_else_, upFrom, below, exists}
-use Rattle.lists.proofs.ListLaws.{same-test, not-both, both-true, and-both, one-true, or-left, or-right, exists-mem, mem-exists, upFrom-mem, mem-upFrom}
+use Rattle.lists.proofs.ListLaws.{exists-same, same-test, not-both, both-true, and-both, one-true, or-left, or-right, exists-mem, mem-exists, upFrom-mem, mem-upFrom}
 use Rattle.states.specs.declared.States.{States}
 use Rattle.states.specs.Sets.{bit, word, member, setOf}
 use Rattle.states.proofs.BitLaws.{bit-none, lowest-set, bit-cleared}
@@ -28,12 +28,6 @@ or-assoc false b c = refl
 or-none : (b : Bool) → b || false ≡ b
 or-none true = refl
 or-none false = refl
-
--- Tests that agree on a list have an element in it together.
-exists-same : (f g : ℕ → Bool) (xs : List ℕ) → ((a : ℕ) → List·Memᴰ a xs → f a ≡ g a) → exists f xs ≡ exists g xs
-unfolding exists
-exists-same f g [] h = refl
-exists-same f g (x ∷ xs) h = ap₂ _||_ (h x (List·Memᴰ·head refl)) (exists-same f g xs (λ a m. h a (List·Memᴰ·tail m)))
 
 -- An element among the numbers from a on is among the first j of them or behind those.
 exists-split : (test : ℕ → Bool) (a j k : ℕ) → exists test (upFrom a (j + k)) ≡ (exists test (upFrom a j) || exists test (upFrom (a + j) k))

@@ -1,13 +1,13 @@
 -- Programs that stand among the nodes of a memory, and where they settle. Assumes nothing.
 use Prim.Native.Nat.{ℕ, suc, _+_, _<_, _≤_}
-use mathlib.Core.Path.{_≡_, refl, ap, sym, subst, _∙_}
+use mathlib.Core.Path.{_≡_, refl, ap, subst, _∙_}
 use mathlib.Core.Logic.{_⊎_, inl, inr}
-use mathlib.Core.List.{List, [], _∷_, _++_, List·Memᴰ}
+use mathlib.Core.List.{List, [], _∷_, _++_}
 use mathlib.Core.Bool.{Bool, true, false, not, _&&_, _||_}
 use native.Mathlib.Omega.{arith}
 use lib.ListN.{length, getD, length-append, List·getD-append}
 use Rattle.lists.specs.Lists.{if_then_else_, every}
-use Rattle.lists.proofs.ListLaws.{same-test, every-mem, mem-every}
+use Rattle.lists.proofs.ListLaws.{every-same, append-past}
 use Rattle.states.specs.declared.States.{States}
 use Rattle.states.specs.Sets.{member, setOf, members}
 use Rattle.states.proofs.SetLaws.{member-setOf, members-mem}
@@ -19,14 +19,10 @@ use Rattle.routine.specs.declared.memory.Node.{Node}
 use Rattle.routine.specs.Memory.{nodeMost}
 use Rattle.routine.specs.Tables.{atoms, atomSets, tests, size, programAtoms, programSets, programNodes}
 use Rattle.routine.proofs.SizeLaws.{tests-length, atom-sets-length, nodes-length, program-sets-length}
-use Rattle.routine.proofs.TableLaws.{append-past, noStates}
+use Rattle.routine.proofs.TableLaws.{noStates}
 use Rattle.progression.specs.declared.place.Place.{Place}
 use Rattle.progression.specs.Machine.{atNode}
 use Rattle.progression.proofs.PolicyLaws.{leftOf, allLeft}
-
-every-same : {A : Type 0} (f g : A → Bool) (xs : List A) → ((a : A) → List·Memᴰ a xs → f a ≡ g a) → every f xs ≡ every g xs
-every-same f g xs e =
-    same-test (every f xs) (every g xs) (λ t. mem-every g xs (λ a m. sym (e a m) ∙ every-mem f xs t m)) (λ t. mem-every f xs (λ a m. e a m ∙ every-mem g xs t m))
 
 -- Items stand one behind the other from place i on, where `get` tells what stands at a place.
 abbrev pub Row : {A : Type 0} (get : ℕ → A) (d : A) (i : ℕ) → List A → Type 0

@@ -1,7 +1,7 @@
 -- One step on the tables of a sheet is one step of the set of possible states.
 use Prim.Native.Nat.{ℕ, _+_, _^_, _<_, _≤_}
 use mathlib.Core.Path.{_≡_, refl, ap, sym, _∙_}
-use mathlib.Core.List.{List, [], _∷_}
+use mathlib.Core.List.{List}
 use mathlib.Core.Logic.{⊎-elim}
 use mathlib.Core.Bool.{Bool, true, false, _&&_}
 use native.Mathlib.Omega.{arith}
@@ -10,7 +10,7 @@ use lib.Dec.{ltb, eqb}
 use lib.ListN.{length, getD}
 use borrow.Author.Tests.{ltb-true, ltb-false, eqb-true, eq-eqb}
 use Rattle.lists.specs.Lists.{if_then_else_, below, exists, keep}
-use Rattle.lists.proofs.ListLaws.{two-cases, same-test, not-both, both-true, and-both, exists-mem, mem-exists, upFrom-mem, mem-upFrom}
+use Rattle.lists.proofs.ListLaws.{two-cases, same-test, both-true, and-both, exists-mem, mem-exists, upFrom-mem, mem-upFrom, keep-within, made-length, made-get}
 use Rattle.states.specs.declared.States.{States}
 use Rattle.states.specs.Sets.{member, setOf, members}
 use Rattle.states.proofs.SetLaws.{member-setOf, set-cong, members-setOf}
@@ -24,8 +24,7 @@ use Rattle.semantics.proofs.ProgressionLaws.{possible-keep, set-states}
 use Rattle.routine.specs.declared.memory.Head.{Head}
 use Rattle.routine.specs.Memory.{setAt}
 use Rattle.routine.specs.Tables.{rows}
-use Rattle.routine.proofs.RoomLaws.{made-length}
-use Rattle.routine.proofs.TableLaws.{noStates, made-get, headOf, firstSet, Tabled, row-is, reply-is}
+use Rattle.routine.proofs.TableLaws.{noStates, headOf, firstSet, Tabled, row-is, reply-is}
 use Rattle.progression.specs.Machine.{gathered, effect, stepped}
 use Rattle.progression.proofs.GatherLaws.{effect-rows, effect-none}
 
@@ -34,18 +33,6 @@ state-byte : (sheet : Sheet) → sheet .facts ≤ 8 → (s : ℕ) → isState sh
 state-byte sheet few s t =
     let h : 2 ^ sheet .facts ≤ 2 ^ 8 = pow-mono few in
     omega (arith, h, state-below sheet s t)
-
--- What is kept by a test is kept behind a weaker one.
-keep-within : {A : Type 0} (f g : A → Bool) (xs : List A) → ((a : A) → f a ≡ true → g a ≡ true) → keep f (keep g xs) ≡ keep f xs
-unfolding keep if_then_else_
-keep-within f g [] w = refl
-keep-within f g (x ∷ xs) w = go (g x) refl (f x) refl (keep-within f g xs w)
-  where
-    go : (b : Bool) → g x ≡ b → (c : Bool) → f x ≡ c → keep f (keep g xs) ≡ keep f xs → keep f (if b then x ∷ keep g xs else keep g xs) ≡ (if c then x ∷ keep f xs else keep f xs)
-    go true e true d h = rw d (ap (λ (ys : List _). x ∷ ys) h)
-    go true e false d h = rw d h
-    go false e true d h = not-both (w x d) e
-    go false e false d h = h
 
 -- Where the sets of an action stand: its rows and its reply tables.
 module _ (sheet : Sheet) (few : sheet .facts ≤ 8) (sets : List ℕ) (k : ℕ) (possible-before : ℕ → Bool) (inside : (s : ℕ) → possible-before s ≡ true → isState sheet s ≡ true) where

@@ -1,49 +1,32 @@
 -- Laws of filling the sets and the heads of actions: what the walking functions answer where a formula or an action stands, and what is left to be written. Assumes nothing.
-use Prim.Native.Nat.{ℕ, zero, suc, _+_, _-_, _*_, _≤_, _<_}
+use Prim.Native.Nat.{ℕ, suc, _+_, _-_, _*_, _≤_, _<_}
 use mathlib.Core.Path.{_≡_, refl, sym, ap, ap₂, subst, _∙_}
 use mathlib.Core.List.{List, [], _∷_, _++_, map, flatMap}
 use mathlib.Core.Bool.{Bool, true, false, _&&_}
 use native.Mathlib.Omega.{arith}
 use native.Mathlib.Numerals.{add-one}
 use lib.ListN.{length, getD, length-append, length-map}
-use Rattle.lists.specs.Lists.{upFrom, below}
+use Rattle.lists.specs.Lists.{upFrom}
+use Rattle.lists.proofs.ListLaws.{made-length}
 use Rattle.states.specs.declared.States.{States}
 use Rattle.states.specs.Sets.{member, setOf}
 use Rattle.states.proofs.SetLaws.{member-setOf, set-cong}
 use Rattle.reader.specs.Syntax.{Objective, bottom, Action, change, probe, replyCount}
 use Rattle.reader.specs.Truth.{truth, holds, answers}
-use Rattle.reader.specs.Format.{Read, got, deepest, mapped, objective}
+use Rattle.reader.specs.Format.{Read, got}
 use Rattle.reader.specs.Nodes.{ActionHead, actionHead, change-head, probe-head, ofSheet}
-use Rattle.reader.specs.Answers.{setRead, inTheory, table}
+use Rattle.reader.specs.Answers.{table}
 use Rattle.reader.specs.NodeAnswers.{actionNodeRead}
 use Rattle.reader.specs.Standing.{ObjectiveAt, RepliesAt, ActionAt, ActionsAt}
 use Rattle.reader.specs.declared.refusal.Refusal.{Refusal}
 use Rattle.reader.specs.declared.formula.View.{View}
-use Rattle.reader.specs.declared.formula.Evaluated.{Evaluated}
 use Rattle.reader.specs.declared.nodes.ActionNode.{ActionNode}
 use Rattle.reader.proofs.NodeLaws.{sheet-short}
-use Rattle.reader.proofs.StandingLaws.{standing-evaluated}
 use Rattle.routine.specs.declared.actions.Laid.{Laid}
 use Rattle.routine.specs.Memory.{write, words}
 use Rattle.routine.specs.Tables.{rows, actionSets, headCells}
 use Rattle.routine.specs.Filling.{Theory, Replies, ActionRoom}
 use Rattle.routine.proofs.WriteLaws.{written-on, words-four, spread-step, spread-append, spread-length}
-
--- What `objective_states` answers where a formula stands.
-module _ (bytes : List ℕ) (n : ℕ) (view : View) (p : ℕ) (r : Evaluated) (short : length bytes ≤ 1024)
-    (e : setRead r ≡ mapped (table view) (ofSheet (objective n (inTheory view) deepest) bytes p)) where
-  answered : (f : Objective) (q : ℕ) → ObjectiveAt bytes n (inTheory view) f p q → setRead r ≡ got (table view f) q
-  answered f q h = e ∙ standing-evaluated bytes n view f p q short h
-
-  -- Its set and where it ends.
-  pub found : {set : States} {end : ℕ} → r ≡ Evaluated.Holds set end → (f : Objective) (q : ℕ) → ObjectiveAt bytes n (inTheory view) f p q → (set ≡ table view f) × (end ≡ q)
-  unfolding setRead
-  found {set} {end} k f q h = let x : got set end ≡ got (table view f) q = sym (ap setRead k) ∙ answered f q h in (cc, cc)
-
-  -- No refusal.
-  pub never-refused : {x : Refusal} {A : Type 0} → r ≡ Evaluated.Refused x → (f : Objective) (q : ℕ) → ObjectiveAt bytes n (inTheory view) f p q → A
-  unfolding setRead
-  never-refused k f q h = let x = sym (ap setRead k) ∙ answered f q h in let z : _≡_ {A = ℕ} 0 1 = cc in absurd (omega arith)
 
 -- What `action_node` answers where an action stands.
 module _ (bytes : List ℕ) (n : ℕ) (p : ℕ) (r : ActionNode) (short : length bytes ≤ 1024) (e : actionNodeRead r ≡ ofSheet actionHead bytes p) where
@@ -98,12 +81,6 @@ module _ (space : States) (f : Objective) (s : ℕ) where
       (λ t l. ap (λ (x : States). member space t && member x t) h ∙ ap (λ (b : Bool). member space t && b) (member-setOf (λ t. truth f s t) t l)
       ∙ ap (λ (b : Bool). b && member space t && truth f s t) (sym e))
 
--- So many numbers.
-upFrom-length : (a k : ℕ) → length (upFrom a k) ≡ k
-unfolding upFrom
-upFrom-length a zero = refl
-upFrom-length a (suc k) = ap suc (upFrom-length (suc a) k)
-
 -- Rows: those from row i on are left to be written.
 abbrev pub rowsFrom : States → Objective → ℕ → List States
 rowsFrom space f i = map (rowOf space f) (upFrom i (256 - i))
@@ -137,7 +114,7 @@ module _ (space : States) (f : Objective) where
   -- There are 256.
   rows-count : length (rows (member space) (change f)) ≡ 256
   unfolding rows
-  rows-count = length-map (below 256) (rowOf space f) ∙ upFrom-length 0 256
+  rows-count = made-length (rowOf space f) 0 256
 
 -- The table of a reply: the states in which it is true.
 abbrev pub tableOf : Objective → States
@@ -238,8 +215,8 @@ module _ (space : States) where
         record { formulas = x .0; next = here .next; stand = x .3; all = x .2; room = omega (arith, l, x .2, here .room) }
 
   -- The head and the sets of an action are written, and r is where they end.
-  abbrev pub Filled : (a k : ℕ) (heads heads′ sets sets′ : List ℕ) (r : Laid) (x : Action) (q : ℕ) → Type 0
-  Filled a k heads heads′ sets sets′ r x q =
+  abbrev pub ActionWritten : (a k : ℕ) (heads heads′ sets sets′ : List ℕ) (r : Laid) (x : Action) (q : ℕ) → Type 0
+  ActionWritten a k heads heads′ sets sets′ r x q =
       (r ≡ record { at = q; set = k + length (actionSets (member space) x) })
       × (heads′ ≡ write heads (3 * a) (headCells (member space) k (x ∷ [])))
       × (sets′ ≡ write sets (4 * k) (flatMap words (actionSets (member space) x)))
@@ -249,10 +226,10 @@ module _ (space : States) where
     pub change-filled : (x : Action) (f : Objective) (end : ℕ) (middle : List ℕ) (full : States) → x ≡ change f → end ≡ q
         → middle ≡ write sets (4 * k) (flatMap words (rows (member space) (change f))) → full ≡ setOf (λ s. true)
         → sets′ ≡ write middle (4 * (k + 256)) (words full) → heads′ ≡ write heads (3 * a) (k ∷ (k + 256) ∷ 1 ∷ [])
-        → Filled a k heads heads′ sets sets′ (record { at = end; set = k + 257 }) x q
+        → ActionWritten a k heads heads′ sets sets′ (record { at = end; set = k + 257 }) x q
     unfolding headCells words flatMap
     change-filled x f end middle full e d r u w h =
-        subst (λ (y : Action). Filled a k heads heads′ sets sets′ (record { at = end; set = k + 257 }) y q) (sym e) (
+        subst (λ (y : Action). ActionWritten a k heads heads′ sets sets′ (record { at = end; set = k + 257 }) y q) (sym e) (
           ap₂ (λ (i j : ℕ). record { at = i; set = k + j }) d (sym (change-count f)),
           h ∙ ap (λ (j : ℕ). write heads (3 * a) (k ∷ (k + j) ∷ 1 ∷ [])) (sym (rows-count space f)),
           written-on sets middle sets′ (4 * k) (4 * (k + 256)) (flatMap words (rows (member space) (change f))) (words (setOf (λ s. true))) r
@@ -265,11 +242,11 @@ module _ (space : States) where
     -- Of a probe: the tables of its replies, and its head.
     pub probe-filled : (x : Action) (fs : List Objective) (m end : ℕ) → x ≡ probe fs → length fs ≡ m
         → (end ≡ q) × (sets′ ≡ write sets (4 * k) (flatMap words (map tableOf fs))) → heads′ ≡ write heads (3 * a) (k ∷ k ∷ m ∷ [])
-        → Filled a k heads heads′ sets sets′ (record { at = end; set = k + m }) x q
+        → ActionWritten a k heads heads′ sets sets′ (record { at = end; set = k + m }) x q
     unfolding headCells rows replyCount
     probe-filled x fs m end e l w h =
         let z : k ≡ k + 0 = omega arith in
-        subst (λ (y : Action). Filled a k heads heads′ sets sets′ (record { at = end; set = k + m }) y q) (sym e) (
+        subst (λ (y : Action). ActionWritten a k heads heads′ sets sets′ (record { at = end; set = k + m }) y q) (sym e) (
           ap₂ (λ (i j : ℕ). record { at = i; set = k + j }) (w .0) (sym (probe-count fs ∙ l)),
           h ∙ ap₂ (λ (i j : ℕ). write heads (3 * a) (k ∷ i ∷ j ∷ [])) z (sym l),
           w .1 ∙ ap (λ (us : List States). write sets (4 * k) (flatMap words us)) (sym (probe-sets fs)),
@@ -296,7 +273,7 @@ module _ (bytes : List ℕ) (n : ℕ) (space : States) (count : ℕ) (heads sets
       pub end : ℕ
       pub stands : ActionAt bytes n action p end
       pub room : k + length (actionSets (member space) action) ≤ length (flatMap (actionSets (member space)) actions)
-      pub later : (r : Laid) (heads″ sets″ : List ℕ) → Filled space a k heads′ heads″ sets′ sets″ r action end
+      pub later : (r : Laid) (heads″ sets″ : List ℕ) → ActionWritten space a k heads′ heads″ sets′ sets″ r action end
           → ActionsLeft bytes n space count heads heads″ sets sets″ (r .at) q (r .set) (a + 1) actions
 
     pub actions-here : a < count → ActionsLeft bytes n space count heads heads′ sets sets′ p q k a actions → Next

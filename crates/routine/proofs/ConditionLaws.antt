@@ -7,23 +7,18 @@ use mathlib.Core.Bool.{false}
 use native.Mathlib.Omega.{arith}
 use lib.Dec.{eqb}
 use lib.ListN.{length}
-use Rattle.states.specs.declared.States.{States}
-use Rattle.states.specs.Sets.{setOf}
 use Rattle.reader.specs.Syntax.{Objective, Epistemic, known, not-known, all-of, any-of}
-use Rattle.reader.specs.Truth.{holds}
-use Rattle.reader.specs.Format.{Read, got, fault, mapped, deepest, objective, epistemicBehind, epistemic}
+use Rattle.reader.specs.Format.{Read, got, fault, objective, epistemicBehind, epistemic}
 use Rattle.reader.specs.Nodes.{EpistemicHead, known-head, not-known-head, all-of-head, any-of-head, epistemicHead, ofSheet}
-use Rattle.reader.specs.Answers.{inTheory, table}
-use Rattle.reader.specs.declared.formula.View.{View}
 use Rattle.reader.specs.Standing.{ObjectiveAt}
 use Rattle.reader.proofs.FormatLaws.{Finds, finds-give, finds-refuse, finds-if, finds-behind, finds-field}
 use Rattle.reader.proofs.FormulaLaws.{objective-levels}
 use Rattle.reader.proofs.NodeLaws.{sheet-short, known-first, not-known-first, all-of-first, any-of-first}
-use Rattle.reader.proofs.StandingLaws.{epistemic-inside, standing-epistemic, standing-evaluated}
+use Rattle.reader.proofs.StandingLaws.{epistemic-inside, standing-epistemic}
 use Rattle.routine.specs.declared.conditions.Extent.{Extent}
 use Rattle.routine.specs.Memory.{write, words, cells}
 use Rattle.routine.specs.Tables.{atoms, atomSets, tests}
-use Rattle.routine.specs.Filling.{Atom, AtomMeasures, AtomFills, Formula, Measures, FormulaRoom, FormulaFills}
+use Rattle.routine.specs.Filling.{AtomMeasures, AtomFills, Formula, Measures, FormulaRoom, FormulaFills}
 use Rattle.routine.proofs.SizeLaws.{tests-length, atom-sets-length, some-atom, atoms-bits}
 use Rattle.routine.proofs.WriteLaws.{spread-one, spread-back, words-four, cells-four}
 
@@ -105,27 +100,6 @@ module _ (bytes : List ℕ) (n : ℕ) where
   formula-parts left at short l e f q r =
       subst (λ x. Parts bytes n left x f q) (sheet-short epistemicHead bytes at short refl ∙ sym e) (parts-found left l at .found f q r)
 
-module _ (bytes : List ℕ) (n at : ℕ) (short : length bytes ≤ 1024) where
-  -- Where an atom's formula stands, its evaluation isn't refused.
-  pub atom-refused : {r : ℕ} → Atom bytes n at → fault r ≡ mapped (table View.States) (ofSheet (objective n (inTheory View.States) deepest) bytes at) → ⊥
-  unfolding inTheory
-  atom-refused a e =
-      let g = e ∙ standing-evaluated bytes n View.States (a .formula) at (a .next) short (a .stands) in
-      let z : _≡_ {A = ℕ} 0 1 = cc in
-      omega arith
-
-  module _ {set : States} {end : ℕ} (e : got set end ≡ mapped (table View.States) (ofSheet (objective n (inTheory View.States) deepest) bytes at)) (f : Objective) (q : ℕ) (h : ObjectiveAt bytes n false f at q) where
-    whole : got set end ≡ got (setOf (λ s. holds f s)) q
-    unfolding inTheory table holds
-    whole = e ∙ standing-evaluated bytes n View.States f at q short h
-
-    -- It gives the set of the states in which the formula holds, and where it ends.
-    pub atom-set : set ≡ setOf (λ s. holds f s)
-    atom-set = let w = whole in cc
-
-    pub atom-end : end ≡ q
-    atom-end = let w = whole in cc
-
 module _ (bytes : List ℕ) (n left : ℕ) where
   -- The extent of a formula is that of its atom, or that of its parts together.
   module _ (f : Epistemic) (p q : ℕ) {r : Extent} (m : AtomMeasures bytes n p r) where
@@ -180,8 +154,8 @@ module _ (bytes : List ℕ) (n left : ℕ) where
     measured-any-of h = rw (h .is) (pair-extent h mx my)
 
 -- The tests and the sets of a formula are written from node `base` and from set k on, and r is its extent.
-abbrev Laid : (base k met unmet : ℕ) (f : Epistemic) (q : ℕ) (nodes nodes′ sets sets′ : List ℕ) → Extent → Type 0
-Laid base k met unmet f q nodes nodes′ sets sets′ r =
+abbrev TestsWritten : (base k met unmet : ℕ) (f : Epistemic) (q : ℕ) (nodes nodes′ sets sets′ : List ℕ) → Extent → Type 0
+TestsWritten base k met unmet f q nodes nodes′ sets sets′ r =
     (r ≡ record { atoms = atoms f; at = q })
     × (nodes′ ≡ write nodes (4 * base) (flatMap cells (tests f k met unmet)))
     × (sets′ ≡ write sets (4 * k) (flatMap words (atomSets f)))
@@ -189,13 +163,13 @@ Laid base k met unmet f q nodes nodes′ sets sets′ r =
 module _ (bytes : List ℕ) (n left base k met unmet : ℕ) where
   -- Those of an atom are one test and one set.
   module _ (f : Epistemic) (p q : ℕ) (nodes sets : List ℕ) {nodes′ sets′ : List ℕ} {r : Extent} where
-    pub laid-known : AtomFills bytes n p base k met unmet nodes nodes′ sets sets′ r → AtomAt bytes n left known f p q → Laid base k met unmet f q nodes nodes′ sets sets′ r
+    pub laid-known : AtomFills bytes n p base k met unmet nodes nodes′ sets sets′ r → AtomAt bytes n left known f p q → TestsWritten base k met unmet f q nodes nodes′ sets sets′ r
     unfolding atoms tests atomSets
     laid-known fills h =
         let a = fills (h .inner) q (h .stands) in
         rw (h .is) (a .0, a .1 ∙ ap (write nodes (4 * base)) (sym (spread-one cells _)), a .2 ∙ ap (write sets (4 * k)) (sym (spread-one words _)))
 
-    pub laid-not-known : AtomFills bytes n p base k unmet met nodes nodes′ sets sets′ r → AtomAt bytes n left not-known f p q → Laid base k met unmet f q nodes nodes′ sets sets′ r
+    pub laid-not-known : AtomFills bytes n p base k unmet met nodes nodes′ sets sets′ r → AtomAt bytes n left not-known f p q → TestsWritten base k met unmet f q nodes nodes′ sets sets′ r
     unfolding atoms tests atomSets
     laid-not-known fills h =
         let a = fills (h .inner) q (h .stands) in
@@ -212,9 +186,9 @@ module _ (bytes : List ℕ) (n left base k met unmet : ℕ) where
     laid-pair h m u earlier =
         let i = atoms (h .first) in
         let j = atoms (h .second) in
-        let a : Laid (base + i) (k + i) met unmet (h .second) q nodes nodes₁ sets sets₁ y =
+        let a : TestsWritten (base + i) (k + i) met unmet (h .second) q nodes nodes₁ sets sets₁ y =
         subst (λ (v : Extent). FormulaFills bytes n (left - 1) (v .at) (base + v .atoms) (k + v .atoms) met unmet nodes nodes₁ sets sets₁ y) (first-extent bytes n left h mx) later (h .second) q (h .second-read) in
-        let b : Laid base k (m j) (u j) (h .first) (h .middle) nodes₁ nodes₂ sets₁ sets₂ z =
+        let b : TestsWritten base k (m j) (u j) (h .first) (h .middle) nodes₁ nodes₂ sets₁ sets₂ z =
         subst (λ (v : Extent). FormulaFills bytes n (left - 1) p base k (m (v .atoms)) (u (v .atoms)) nodes₁ nodes₂ sets₁ sets₂ z) (a .0) earlier (h .first) (h .middle) (h .first-read) in (
           pair-extent bytes n left h mx (λ g r e. later g r e .0),
           spread-back cells cells-four nodes nodes₁ nodes₂ base (base + i) (tests (h .first) k (m j) (u j)) (tests (h .second) (k + i) met unmet) (a .1) (b .1)
@@ -224,12 +198,12 @@ module _ (bytes : List ℕ) (n left base k met unmet : ℕ) where
         )
 
     pub laid-all-of : FormulaFills bytes n (left - 1) p base k 0 (y .atoms + unmet) nodes₁ nodes₂ sets₁ sets₂ z → PairAt bytes n left all-of f p q
-        → Laid base k met unmet f q nodes nodes₂ sets sets₂ (record { atoms = x .atoms + y .atoms; at = y .at })
+        → TestsWritten base k met unmet f q nodes nodes₂ sets sets₂ (record { atoms = x .atoms + y .atoms; at = y .at })
     unfolding atoms tests atomSets
     laid-all-of earlier h = rw (h .is) (laid-pair h (λ v. 0) (λ v. v + unmet) earlier)
 
     pub laid-any-of : FormulaFills bytes n (left - 1) p base k (y .atoms + met) 0 nodes₁ nodes₂ sets₁ sets₂ z → PairAt bytes n left any-of f p q
-        → Laid base k met unmet f q nodes nodes₂ sets sets₂ (record { atoms = x .atoms + y .atoms; at = y .at })
+        → TestsWritten base k met unmet f q nodes nodes₂ sets sets₂ (record { atoms = x .atoms + y .atoms; at = y .at })
     unfolding atoms tests atomSets
     laid-any-of earlier h = rw (h .is) (laid-pair h (λ v. v + met) (λ v. 0) earlier)
 

@@ -1,6 +1,7 @@
 pub mod WriteLaws
 pub mod MemoryLaws
 pub mod SizeLaws
+pub mod EvaluatedLaws
 pub mod ActionLaws
 pub mod ConditionLaws
 pub mod ProgramLaws

@@ -1,29 +1,28 @@
 -- The parts of an accepted sheet, written one after the other, are its tables.
-use Prim.Native.Nat.{ℕ, zero, suc, _+_, _*_, _^_, _<_, _≤_}
+use Prim.Native.Nat.{ℕ, _+_, _*_, _^_, _<_, _≤_}
 use mathlib.Core.Path.{_≡_, refl, ap, ap₂, sym, subst, _∙_}
-use mathlib.Core.List.{List, [], _∷_, _++_, map, flatMap}
+use mathlib.Core.List.{List, [], _∷_, _++_, flatMap}
 use mathlib.Core.Bool.{Bool, true, false, _&&_}
 use native.Mathlib.Omega.{arith}
 use lib.Dec.{ltb}
 use lib.ListN.{length}
-use Rattle.lists.specs.Lists.{upFrom}
+use Rattle.lists.proofs.ListLaws.{made-same}
 use Rattle.states.specs.declared.States.{States}
 use Rattle.states.specs.Sets.{member, setOf}
 use Rattle.states.proofs.SetLaws.{member-setOf, set-cong}
 use Rattle.reader.specs.Syntax.{Action, change, probe, replyCount, Sheet}
 use Rattle.reader.specs.Truth.{isState, truth, holds}
-use Rattle.reader.specs.Format.{Answer, accepted, refused, Read, got, fault, deepest, mapped, objective, epistemic, reading}
+use Rattle.reader.specs.Format.{Answer, accepted, refused, Read, got, fault, epistemic, reading}
 use Rattle.reader.specs.Nodes.{Header, header, ofSheet}
-use Rattle.reader.specs.Answers.{numberOf, withoutSheet, setRead, inTheory, table}
+use Rattle.reader.specs.Answers.{numberOf, withoutSheet, inTheory, table}
 use Rattle.reader.specs.NodeAnswers.{headerRead}
 use Rattle.reader.specs.Standing.{Standing, ObjectiveAt, ActionsAt, ProgramAt}
 use Rattle.reader.specs.declared.refusal.Refusal.{Refusal}
 use Rattle.reader.specs.declared.nodes.HeaderRead.{HeaderRead}
 use Rattle.reader.specs.declared.formula.View.{View}
-use Rattle.reader.specs.declared.formula.Evaluated.{Evaluated}
 use Rattle.reader.proofs.NodeLaws.{sheet-short}
 use Rattle.reader.proofs.SheetLaws.{accepted-shape}
-use Rattle.reader.proofs.StandingLaws.{accepted-standing, standing-evaluated}
+use Rattle.reader.proofs.StandingLaws.{accepted-standing}
 use Rattle.routine.specs.declared.memory.Node.{Node}
 use Rattle.routine.specs.declared.actions.Laid.{Laid}
 use Rattle.routine.specs.declared.conditions.Extent.{Extent}
@@ -34,12 +33,6 @@ use Rattle.routine.specs.Filling.{ActionsRoom, ActionsFill, Formula, Mea
 use Rattle.routine.proofs.SizeLaws.{tests-length, nodes-length, program-sets-length}
 use Rattle.routine.proofs.RoomLaws.{Room, accepted-room}
 use Rattle.routine.proofs.WriteLaws.{spread-on, spread-one, words-four, cells-four}
-
--- What is made of the same numbers is the same.
-made-same : {A : Type 0} (f g : ℕ → A) (a k : ℕ) → ((s : ℕ) → s < a + k → f s ≡ g s) → map f (upFrom a k) ≡ map g (upFrom a k)
-unfolding upFrom
-made-same f g a zero e = refl
-made-same f g a (suc k) e = rw (e a (omega arith), made-same f g (suc a) k (λ s l. e s (omega arith)))
 
 -- The tables of actions depend on the space of states only below 256.
 module _ (p q : ℕ → Bool) (same : (s : ℕ) → s < 256 → p s ≡ q s) where
@@ -150,34 +143,15 @@ module _ (bytes : List ℕ) (sheet : Sheet) (read : reading bytes ≡ accepted s
       first-sets : sets₁ ≡ write sets 0 (flatMap words (sheetActionSets sheet))
       first-sets = written .2 ∙ ap (λ (us : List States). write sets 0 (flatMap words us)) sets-are
 
-      -- The start formula is read behind them.
-      start-read : mapped (table View.States) (ofSheet (objective n (inTheory View.States) deepest) bytes (laid .at)) ≡ got (table View.States (sheet .start)) (stands .goal-at)
+      -- The start formula stands behind them.
+      pub start-stands : ObjectiveAt bytes n (inTheory View.States) (sheet .start) (laid .at) (stands .goal-at)
       unfolding inTheory
-      start-read =
-          standing-evaluated bytes n View.States (sheet .start) (laid .at) (stands .goal-at) (stands .short)
-          (subst (λ (m : ℕ). ObjectiveAt bytes m false (sheet .start) (laid .at) (stands .goal-at)) (sym facts-are)
-          (subst (λ (p : ℕ). ObjectiveAt bytes (sheet .facts) false (sheet .start) p (stands .goal-at)) (sym laid-at) (stands .start-stands)))
-
-      pub start-refused : {A : Type 0} (r : Evaluated) (x : Refusal) → setRead r ≡ mapped (table View.States) (ofSheet (objective n (inTheory View.States) deepest) bytes (laid .at))
-          → r ≡ Evaluated.Refused x → A
-      unfolding setRead
-      start-refused r x e told =
-          let f : fault (numberOf x) ≡ got (table View.States (sheet .start)) (stands .goal-at) = sym (ap setRead told) ∙ e ∙ start-read in
-          let z : _≡_ {A = ℕ} 0 1 = cc in absurd (omega arith)
-
-      pub start-found : (r : Evaluated) (start : States) (goal-at : ℕ) → setRead r ≡ mapped (table View.States) (ofSheet (objective n (inTheory View.States) deepest) bytes (laid .at))
-          → r ≡ Evaluated.Holds start goal-at → got start goal-at ≡ got (table View.States (sheet .start)) (stands .goal-at)
-      unfolding setRead
-      start-found r start goal-at e told = sym (ap setRead told) ∙ e ∙ start-read
+      start-stands =
+          subst (λ (m : ℕ). ObjectiveAt bytes m false (sheet .start) (laid .at) (stands .goal-at)) (sym facts-are)
+          (subst (λ (p : ℕ). ObjectiveAt bytes (sheet .facts) false (sheet .start) p (stands .goal-at)) (sym laid-at) (stands .start-stands))
 
       -- Its set, and where the goal begins.
-      module _ (start : States) (goal-at : ℕ) (start-got : got start goal-at ≡ got (table View.States (sheet .start)) (stands .goal-at)) where
-        start-is : start ≡ table View.States (sheet .start)
-        start-is = cc
-
-        goal-is : goal-at ≡ stands .goal-at
-        goal-is = cc
-
+      module _ (start : States) (goal-at : ℕ) (start-is : start ≡ table View.States (sheet .start)) (goal-is : goal-at ≡ stands .goal-at) where
         pub start-filled : (r : States) → r ≡ setOf (λ s. member space s && member start s) → r ≡ sheetStart sheet
         unfolding sheetStart table holds
         start-filled r e =

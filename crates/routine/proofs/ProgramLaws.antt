@@ -91,12 +91,12 @@ abbrev ends : (base k : ℕ) (x : Program) (q : ℕ) → Filled
 ends base k x q = record { at = q; node = base + size x; set = k + programAtoms x }
 
 -- The nodes and the sets of a program are written from node `base` and from set k on, and r is where it ends.
-abbrev Laid : (base k : ℕ) (x : Program) (q : ℕ) (nodes nodes′ sets sets′ : List ℕ) → Filled → Type 0
-Laid base k x q nodes nodes′ sets sets′ r =
+abbrev NodesWritten : (base k : ℕ) (x : Program) (q : ℕ) (nodes nodes′ sets sets′ : List ℕ) → Filled → Type 0
+NodesWritten base k x q nodes nodes′ sets sets′ r =
     (r ≡ ends base k x q) × (nodes′ ≡ write nodes (4 * base) (flatMap cells (programNodes x k))) × (sets′ ≡ write sets (4 * k) (flatMap words (programSets x)))
 
 -- The end has none.
-pub laid-end : (base k : ℕ) {x : Program} (p q : ℕ) (nodes sets : List ℕ) → (x ≡ end) × (p ≡ q) → Laid base k x q nodes nodes sets sets (record { at = p; node = base; set = k })
+pub laid-end : (base k : ℕ) {x : Program} (p q : ℕ) (nodes sets : List ℕ) → (x ≡ end) × (p ≡ q) → NodesWritten base k x q nodes nodes sets sets (record { at = p; node = base; set = k })
 unfolding size programAtoms programNodes programSets flatMap write
 laid-end base k p q nodes sets h =
     let i : base ≡ base + 0 = omega arith in
@@ -111,7 +111,7 @@ module _ (bytes : List ℕ) (n at base k : ℕ) where
     rest-later = let i = program-inside bytes n (h .rest) p q (h .stands) in omega (arith, h .before)
 
     pub laid-act : (nodes nodes₁ sets : List ℕ) {nodes₂ sets₂ : List ℕ} {r : Filled} → nodes₁ ≡ write nodes (4 * base) (cells (Node.Act a)) → ProgramFills bytes n p (base + 1) k nodes₁ nodes₂ sets sets₂ r
-        → Laid base k x q nodes nodes₂ sets sets₂ r
+        → NodesWritten base k x q nodes nodes₂ sets sets₂ r
     unfolding size programAtoms programNodes programSets
     laid-act nodes nodes₁ sets {nodes₂ = nodes₂} put fills =
         let b = fills (h .rest) q (h .stands) in
@@ -209,7 +209,7 @@ module _ (bytes : List ℕ) (n at base k : ℕ) where
         → ProgramFills bytes n (y .at) (y .node + 1) (y .set) nodes₂ nodes₃ sets₂ sets₃ z
         → nodes₄ ≡ write nodes₃ (4 * y .node) (cells (Node.Jump (z .node - (y .node + 1))))
         → ProgramFills bytes n (z .at) (z .node) (z .set) nodes₄ nodes₅ sets₃ sets₅ r
-        → Laid base k x q nodes nodes₅ sets sets₅ r
+        → NodesWritten base k x q nodes nodes₅ sets sets₅ r
     unfolding size programAtoms programNodes programSets
     laid-branch nodes nodes₁ nodes₂ nodes₃ nodes₄ sets sets₁ sets₂ sets₃ {nodes₅ = nodes₅} {sets₅ = sets₅} {w = w} {y = y} {z = z} {r = r} mc fy ft fz put fr =
         let f = h .condition in
@@ -223,12 +223,12 @@ module _ (bytes : List ℕ) (n at base k : ℕ) where
         let k₁ = k + atoms f in
         let k₂ = k + atoms f + programAtoms (h .yes) in
         let k₃ = k + atoms f + programAtoms (h .yes) + programAtoms (h .no) in
-        let ly : Laid b₁ k₁ (h .yes) (parts .else-at) nodes nodes₁ sets sets₁ y =
+        let ly : NodesWritten b₁ k₁ (h .yes) (parts .else-at) nodes nodes₁ sets sets₁ y =
         subst (λ (v : Extent). ProgramFills bytes n (v .at) (base + v .atoms) (k + v .atoms) nodes nodes₁ sets sets₁ y) (condition-is mc) fy (h .yes) (parts .else-at) (parts .then-stands) in
         let lt = subst (λ (u : ℕ). FormulaFills bytes n 16 p base k 0 u nodes₁ nodes₂ sets₁ sets₂ w) (skip-is mc ey) ft f (parts .then-at) (parts .condition-read) in
-        let lz : Laid b₃ k₂ (h .no) (parts .rest-at) nodes₂ nodes₃ sets₂ sets₃ z =
+        let lz : NodesWritten b₃ k₂ (h .no) (parts .rest-at) nodes₂ nodes₃ sets₂ sets₃ z =
         subst (λ (v : Filled). ProgramFills bytes n (v .at) (v .node + 1) (v .set) nodes₂ nodes₃ sets₂ sets₃ z) (then-is mc ey) fz (h .no) (parts .rest-at) (parts .else-stands) in
-        let lr : Laid b₄ k₃ (h .rest) q nodes₄ nodes₅ sets₃ sets₅ r =
+        let lr : NodesWritten b₄ k₃ (h .rest) q nodes₄ nodes₅ sets₃ sets₅ r =
         subst (λ (v : Filled). ProgramFills bytes n (v .at) (v .node) (v .set) nodes₄ nodes₅ sets₃ sets₅ r) (else-is mc ey ez) fr (h .rest) q (parts .rest-stands) in
         let jump = Node.Jump (size (h .no)) in
         let jumps : nodes₄ ≡ write nodes₃ (4 * b₂) (flatMap cells (jump ∷ [])) =

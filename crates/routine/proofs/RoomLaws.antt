@@ -1,11 +1,11 @@
 -- How many sets and nodes a sheet has, and that those of an accepted sheet have room in the memory.
-use Prim.Native.Nat.{ℕ, zero, suc, _+_, _*_, _≤_}
+use Prim.Native.Nat.{ℕ, _+_, _*_, _≤_}
 use mathlib.Core.Path.{_≡_, refl, ap, _∙_}
-use mathlib.Core.List.{List, [], _∷_, _++_, map, flatMap, List·Memᴰ, List·Memᴰ·head, List·Memᴰ·tail}
+use mathlib.Core.List.{List, [], _∷_, _++_, flatMap, List·Memᴰ, List·Memᴰ·head, List·Memᴰ·tail}
 use mathlib.Core.Bool.{Bool, true, false, _&&_}
 use native.Mathlib.Omega.{arith}
 use lib.ListN.{length, length-append}
-use Rattle.lists.specs.Lists.{upFrom}
+use Rattle.lists.proofs.ListLaws.{made-length}
 use Rattle.reader.specs.Syntax.{Action, change, probe, replyCount, Sheet}
 use Rattle.states.specs.Sets.{setOf}
 use Rattle.reader.specs.Truth.{isState, truth, answers}
@@ -15,12 +15,6 @@ use Rattle.reader.proofs.StandingLaws.{accepted-standing}
 use Rattle.routine.proofs.SizeLaws.{tests-length, atom-sets-length, nodes-length, program-sets-length, size-nodes, atoms-bits, program-bits}
 use Rattle.routine.specs.declared.memory.Node.{Node}
 use Rattle.routine.specs.Tables.{rows, replyTables, actionSets, headCells, atoms, atomSets, tests, size, programAtoms, programSets, programNodes, sheetActionSets, sheetSets, sheetNodes}
-
--- What is made of k numbers has k elements.
-pub made-length : {A : Type 0} (make : ℕ → A) (a k : ℕ) → length (map make (upFrom a k)) ≡ k
-unfolding upFrom
-made-length make a zero = refl
-made-length make a (suc k) = ap suc (made-length make (suc a) k)
 
 -- A table for each reply.
 replies-length : (a : Action) → length (replyTables a) ≡ replyCount a

@@ -1,13 +1,14 @@
 -- What stands in the memory after a sheet was prepared: its sets, its nodes and the heads of its actions.
 use Prim.Native.Nat.{ℕ, zero, suc, _+_, _*_, _<_, _≤_}
 use mathlib.Core.Path.{_≡_, refl, ap, _∙_}
-use mathlib.Core.List.{List, [], _∷_, _++_, map, flatMap}
+use mathlib.Core.List.{List, [], _∷_, _++_, flatMap}
 use mathlib.Core.Bool.{Bool, true, false}
 use native.Mathlib.Omega.{arith}
 use lib.ListN.{length, getD, set, take, length-set, length-append, List·getD-append}
 use lib.Seq.{getD-set-same, getD-set-other}
 use borrow.Author.Tests.{lt-ltb}
-use Rattle.lists.specs.Lists.{if_then_else_, upFrom}
+use Rattle.lists.specs.Lists.{if_then_else_}
+use Rattle.lists.proofs.ListLaws.{append-past, made-get}
 use Rattle.states.specs.declared.States.{States}
 use Rattle.states.specs.Sets.{setOf}
 use Rattle.reader.specs.Syntax.{Action, probe, replyCount, Sheet, actionOf}
@@ -40,11 +41,6 @@ write-back xs i (y ∷ ys) h (suc j) l =
 -- Written from the first place on.
 back : (xs ys : List ℕ) → length ys ≤ length xs → (j : ℕ) → j < length ys → getD (write xs 0 ys) j 0 ≡ getD ys j 0
 back xs ys h j l = let e : j ≡ 0 + j = omega arith in ap (λ (v : ℕ). getD (write xs 0 ys) v 0) e ∙ write-back xs 0 ys (omega arith) j l
-
--- An element behind the first of two lists.
-pub append-past : {A : Type 0} (xs ys : List A) (d : A) (j : ℕ) → getD (xs ++ ys) (length xs + j) d ≡ getD ys j d
-append-past [] ys d j = let e : 0 + j ≡ j = omega arith in ap (λ (v : ℕ). getD ys v d) e
-append-past (x ∷ xs) ys d j = let e : suc (length xs) + j ≡ suc (length xs + j) = omega arith in ap (λ (v : ℕ). getD (x ∷ (xs ++ ys)) v d) e ∙ append-past xs ys d j
 
 -- What takes four numbers each: number j of item k.
 module _ {A : Type 0} (spread : A → List ℕ) (four : (a : A) → length (spread a) ≡ 4) (d : A) where
@@ -186,13 +182,6 @@ prepared-tabled bytes sheet e heads nodes sets h n s =
       node-is = λ i l. node-back nodes (sheetNodes sheet) n (omega (arith, sheet-nodes-length sheet, room .nodes-room)) i l;
       set-is = λ k l. set-back sets (sheetSets sheet) s (omega (arith, sheet-sets-length sheet, room .sets-room)) k l;
     })
-
--- Element j of what is made of numbers.
-pub made-get : {A : Type 0} (make : ℕ → A) (d : A) (a k j : ℕ) → j < k → getD (map make (upFrom a k)) j d ≡ make (a + j)
-unfolding upFrom
-made-get make d a zero j l = absurd (omega arith)
-made-get make d a (suc k) zero l = let e : a ≡ a + 0 = omega arith in ap make e
-made-get make d a (suc k) (suc j) l = let e : suc a + j ≡ a + suc j = omega arith in made-get make d (suc a) k j (omega arith) ∙ ap make e
 
 -- The sets of an action of the sheet.
 module _ (sheet : Sheet) (heads nodes sets : List ℕ) (tabled : Tabled sheet heads nodes sets) (a : ℕ) (l : a < length (sheet .actions)) where

@@ -8,7 +8,8 @@ use lib.ListN.{length}
 use Rattle.reader.specs.Syntax.{Objective}
 use Rattle.reader.specs.Answers.{inTheory}
 use Rattle.reader.specs.Standing.{RepliesAt}
-use Rattle.routine.proofs.ActionLaws.{found, never-refused, RepliesLeft, replies-first, replies-here, replies-last}
+use Rattle.routine.proofs.EvaluatedLaws.{found, never-refused}
+use Rattle.routine.proofs.ActionLaws.{RepliesLeft, replies-first, replies-here, replies-last}
 use Rattle.routine.proofs.actions.fill_replies.Statement.{statement}
 use Rattle.routine.proofs.actions.fill_replies.Tie as tie
 

@@ -3,7 +3,8 @@ use borrow.Author.Needs.{needs}
 use mathlib.Core.Path.{sym, _∙_}
 use borrow.Author.Tests.{not-true, not-false}
 use Rattle.reader.specs.Answers.{inTheory}
-use Rattle.routine.proofs.ActionLaws.{found, never-refused, row-outside, row-inside}
+use Rattle.routine.proofs.EvaluatedLaws.{found, never-refused}
+use Rattle.routine.proofs.ActionLaws.{row-outside, row-inside}
 use Rattle.routine.proofs.actions.row.Statement.{statement}
 use Rattle.routine.proofs.actions.row.Tie as tie
 

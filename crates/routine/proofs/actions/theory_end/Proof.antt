@@ -1,7 +1,7 @@
 -- `routine::actions::theory_end` meets its contract: a theory that stands is not refused, and ends where it is found to end. Assumes nothing.
 use borrow.Author.Needs.{needs}
 use Rattle.reader.specs.Answers.{inTheory}
-use Rattle.routine.proofs.ActionLaws.{found, never-refused}
+use Rattle.routine.proofs.EvaluatedLaws.{found, never-refused}
 use Rattle.routine.proofs.actions.theory_end.Statement.{statement}
 use Rattle.routine.proofs.actions.theory_end.Tie as tie
 

@@ -1,9 +1,8 @@
 -- `routine::conditions::atom_extent` meets its contract. Assumes nothing.
-use mathlib.Core.Path.{ap, sym, _∙_}
+use mathlib.Core.Path.{ap}
 use borrow.Author.Needs.{needs}
-use denote.Ref.{now}
-use Rattle.reader.specs.Answers.{setRead}
-use Rattle.routine.proofs.ConditionLaws.{atom-refused, atom-end}
+use Rattle.reader.specs.Answers.{inTheory}
+use Rattle.routine.proofs.EvaluatedLaws.{found, never-refused}
 use Rattle.routine.proofs.conditions.atom_extent.Statement.{statement}
 use Rattle.routine.proofs.conditions.atom_extent.Tie as tie
 
@@ -17,17 +16,14 @@ enum-known-set : tie.Need-enum-known-set
 enum-known-set c = search needs
 
 returns : tie.Need-returns
-unfolding setRead
-returns c =
-    let d = c .before .before .before .before .before in
-    absurd (atom-refused (now (d .args .s)) (d .args .n) (d .args .at) (d .pre .0) (d .pre .1) (sym (ap setRead (c .before .r .given .1)) ∙ c .before .before .before .objective-states .ensures))
+unfolding inTheory
+returns c = λ f q h. never-refused _ _ _ _ _ (c .before .before .before .before .before .pre .0) (c .before .before .before .objective-states .ensures) (c .before .r .given .1) f q h
 
 returns-2 : tie.Need-returns-2
-unfolding setRead
-returns-2 c f q h =
-    let d = c .before .before .before .before .before in
-    let read = sym (ap setRead (c .before .set .given .1)) ∙ c .before .before .before .objective-states .ensures in
-    ap (λ e. record { atoms = 1; at = e }) (atom-end (now (d .args .s)) (d .args .n) (d .args .at) (d .pre .0) read f q h)
+unfolding inTheory
+returns-2 c = λ f q h.
+    ap (λ e. record { atoms = 1; at = e })
+    (found _ _ _ _ _ (c .before .before .before .before .before .pre .0) (c .before .before .before .objective-states .ensures) (c .before .set .given .1) f q h .1)
 
 pub atom-extent-spec : {M : Type 1} → statement M
 atom-extent-spec = tie.close (tie.spec objective-states-requires enum-known-r enum-known-set returns returns-2)

@@ -1,13 +1,13 @@
 -- `routine::conditions::fill_atom` meets its contract. Assumes nothing.
 use Prim.Native.Nat.{_*_}
-use mathlib.Core.Path.{ap, sym, _∙_}
+use mathlib.Core.Path.{ap, _∙_}
 use native.Mathlib.Omega.{arith}
 use borrow.Author.Needs.{needs}
 use denote.Ref.{now}
 use Rattle.states.specs.declared.States.{States}
-use Rattle.reader.specs.Answers.{setRead}
+use Rattle.reader.specs.Answers.{inTheory}
 use Rattle.routine.specs.Memory.{write, words, Small}
-use Rattle.routine.proofs.ConditionLaws.{atom-refused, atom-set, atom-end}
+use Rattle.routine.proofs.EvaluatedLaws.{found, never-refused, table-holds}
 use Rattle.routine.proofs.conditions.fill_atom.Statement.{statement}
 use Rattle.routine.proofs.conditions.fill_atom.Tie as tie
 
@@ -30,20 +30,18 @@ put-set-requires : tie.Need-put-set-requires
 put-set-requires c κs = search needs
 
 returns : tie.Need-returns
-unfolding setRead
-returns c =
-    let d = c .before .before .before .before .before in
-    absurd (atom-refused (now (d .args .s)) (d .args .n) (d .args .at) (d .pre .0) (d .pre .5) (sym (ap setRead (c .before .r .given .1)) ∙ c .before .before .before .objective-states .ensures))
+unfolding inTheory
+returns c = λ f q h. never-refused _ _ _ _ _ (c .before .before .before .before .before .pre .0) (c .before .before .before .objective-states .ensures) (c .before .r .given .1) f q h
 
 returns-2 : tie.Need-returns-2
-unfolding setRead
-returns-2 c f q h =
+unfolding inTheory
+returns-2 c = λ f q h.
     let d = c .before .before .before .before .before .before .before .before .before in
-    let bytes = now (d .args .s) in
-    let read = sym (ap setRead (c .before .before .before .before .before .set .given .1)) ∙ c .before .before .before .before .before .before .before .objective-states .ensures in (
-      ap (λ e. record { atoms = 1; at = e }) (atom-end bytes (d .args .n) (d .args .at) (d .pre .0) read f q h),
+    let is = found _ _ _ _ _ (d .pre .0) (c .before .before .before .before .before .before .before .objective-states .ensures) (c .before .before .before .before .before .set .given .1) f q h in
+    (
+      ap (λ e. record { atoms = 1; at = e }) (is .1),
       c .before .before .put-node .ensures,
-      c .put-set .ensures ∙ ap (λ (set : States). write (now (d .args .sets)) (4 * d .args .k) (words set)) (atom-set bytes (d .args .n) (d .args .at) (d .pre .0) read f q h),
+      c .put-set .ensures ∙ ap (λ (set : States). write (now (d .args .sets)) (4 * d .args .k) (words set)) (is .0 ∙ table-holds f),
     )
 
 pub fill-atom-spec : {M : Type 1} → statement M

@@ -4,7 +4,9 @@ use borrow.Author.Needs.{needs}
 use Rattle.reader.proofs.SheetLaws.{accepted-length}
 use Rattle.routine.specs.Memory.{Small}
 use Rattle.routine.specs.Tables.{sheetHeads, nodeCells, setWords, preparedOf}
-use Rattle.routine.proofs.PrepareLaws.{header-refused, header-found, actions-room, start-refused, start-found, start-filled, start-accepted, goal-formula, program-room, goal-room, ends-inside, prepared-accepted, heads-filled, nodes-filled, sets-filled}
+use Rattle.reader.specs.declared.formula.View.{View}
+use Rattle.routine.proofs.EvaluatedLaws.{found, never-refused}
+use Rattle.routine.proofs.PrepareLaws.{header-refused, header-found, actions-room, start-stands, start-filled, start-accepted, goal-formula, program-room, goal-room, ends-inside, prepared-accepted, heads-filled, nodes-filled, sets-filled}
 use Rattle.routine.proofs.sheet.fill.Statement.{statement}
 use Rattle.routine.proofs.sheet.fill.Tie as tie
 use Rattle.routine.proofs.sheet.fill.Reads as reads
@@ -43,9 +45,9 @@ fill-actions-requires c κs =
     let read = c .before .before .before .before .before .before .before .before .pre .read in
     let n = c .before .before .before .before .n .given .0 .0 in
     let count = c .before .before .before .before .n .given .0 .1 .0 in
-    let found = header-found (a .s .now) sheet read _ n count (c .before .before .before .before .before .before .header .ensures) (c .before .before .before .before .n .given .1) in
+    let counts = header-found (a .s .now) sheet read _ n count (c .before .before .before .before .before .before .header .ensures) (c .before .before .before .before .n .given .1) in
     let space = c .before .before .all .result in
-    (accepted-length (a .s .now) sheet read, actions-room (a .s .now) sheet read n count space (found .0) (found .1) (c .before .before .all .ensures))
+    (accepted-length (a .s .now) sheet read, actions-room (a .s .now) sheet read n count space (counts .0) (counts .1) (c .before .before .all .ensures))
 
 objective-states-requires : tie.Need-objective-states-requires
 objective-states-requires c κs = search needs
@@ -63,10 +65,10 @@ returns-2 c =
     let read = c .before .before .before .before .before .before .before .before .before .before .before .before .pre .read in
     let n = c .before .before .before .before .before .before .before .before .n .given .0 .0 in
     let count = c .before .before .before .before .before .before .before .before .n .given .0 .1 .0 in
-    let found = header-found (a .s .now) sheet read _ n count (c .before .before .before .before .before .before .before .before .before .before .header .ensures) (c .before .before .before .before .before .before .before .before .n .given .1) in
+    let counts = header-found (a .s .now) sheet read _ n count (c .before .before .before .before .before .before .before .before .before .before .header .ensures) (c .before .before .before .before .before .before .before .before .n .given .1) in
     let space = c .before .before .before .before .before .before .all .result in
     let laid = c .before .before .before .fill-actions .result in
-    start-refused (a .s .now) sheet read n count space (found .0) (found .1) (c .before .before .before .before .before .before .all .ensures) _ _ _ _ laid (c .before .before .before .fill-actions .ensures) _ _ (c .before .before .objective-states .ensures) (c .enum-told2 .given .1)
+    never-refused (a .s .now) n View.States (laid .at) _ (accepted-length (a .s .now) sheet read) (c .before .before .objective-states .ensures) (c .enum-told2 .given .1) (sheet .start) _ (start-stands (a .s .now) sheet read n count space (counts .0) (counts .1) (c .before .before .before .before .before .before .all .ensures) _ _ _ _ laid (c .before .before .before .fill-actions .ensures))
 
 measure-requires : tie.Need-measure-requires
 measure-requires c κs =
@@ -75,13 +77,13 @@ measure-requires c κs =
     let read = c .before .before .before .before .before .before .before .before .before .before .before .before .before .pre .read in
     let n = c .before .before .before .before .before .before .before .before .before .n .given .0 .0 in
     let count = c .before .before .before .before .before .before .before .before .before .n .given .0 .1 .0 in
-    let found = header-found (a .s .now) sheet read _ n count (c .before .before .before .before .before .before .before .before .before .before .before .header .ensures) (c .before .before .before .before .before .before .before .before .before .n .given .1) in
+    let counts = header-found (a .s .now) sheet read _ n count (c .before .before .before .before .before .before .before .before .before .before .before .header .ensures) (c .before .before .before .before .before .before .before .before .before .n .given .1) in
     let space = c .before .before .before .before .before .before .before .all .result in
     let laid = c .before .before .before .before .fill-actions .result in
     let start = c .before .start .given .0 .0 in
     let goal-at = c .before .start .given .0 .1 .0 in
-    let got = start-found (a .s .now) sheet read n count space (found .0) (found .1) (c .before .before .before .before .before .before .before .all .ensures) _ _ _ _ laid (c .before .before .before .before .fill-actions .ensures) _ start goal-at (c .before .before .before .objective-states .ensures) (c .before .start .given .1) in
-    (accepted-length (a .s .now) sheet read, goal-formula (a .s .now) sheet read n count space (found .0) (found .1) (c .before .before .before .before .before .before .before .all .ensures) _ _ _ _ laid (c .before .before .before .before .fill-actions .ensures) start goal-at got)
+    let is = found (a .s .now) n View.States (laid .at) _ (accepted-length (a .s .now) sheet read) (c .before .before .before .objective-states .ensures) (c .before .start .given .1) (sheet .start) _ (start-stands (a .s .now) sheet read n count space (counts .0) (counts .1) (c .before .before .before .before .before .before .before .all .ensures) _ _ _ _ laid (c .before .before .before .before .fill-actions .ensures)) in
+    (accepted-length (a .s .now) sheet read, goal-formula (a .s .now) sheet read n count space (counts .0) (counts .1) (c .before .before .before .before .before .before .before .all .ensures) _ _ _ _ laid (c .before .before .before .before .fill-actions .ensures) start goal-at (is .0) (is .1))
 
 fill-program-requires : tie.Need-fill-program-requires
 fill-program-requires c κs =
@@ -90,13 +92,13 @@ fill-program-requires c κs =
     let read = c .before .before .before .before .before .before .before .before .before .before .before .before .before .before .before .before .pre .read in
     let n = c .before .before .before .before .before .before .before .before .before .before .before .before .n .given .0 .0 in
     let count = c .before .before .before .before .before .before .before .before .before .before .before .before .n .given .0 .1 .0 in
-    let found = header-found (a .s .now) sheet read _ n count (c .before .before .before .before .before .before .before .before .before .before .before .before .before .before .header .ensures) (c .before .before .before .before .before .before .before .before .before .before .before .before .n .given .1) in
+    let counts = header-found (a .s .now) sheet read _ n count (c .before .before .before .before .before .before .before .before .before .before .before .before .before .before .header .ensures) (c .before .before .before .before .before .before .before .before .before .before .before .before .n .given .1) in
     let space = c .before .before .before .before .before .before .before .before .before .before .all .result in
     let laid = c .before .before .before .before .before .before .before .fill-actions .result in
     let start = c .before .before .before .before .start .given .0 .0 in
     let goal-at = c .before .before .before .before .start .given .0 .1 .0 in
-    let got = start-found (a .s .now) sheet read n count space (found .0) (found .1) (c .before .before .before .before .before .before .before .before .before .before .all .ensures) _ _ _ _ laid (c .before .before .before .before .before .before .before .fill-actions .ensures) _ start goal-at (c .before .before .before .before .before .before .objective-states .ensures) (c .before .before .before .before .start .given .1) in
-    (accepted-length (a .s .now) sheet read, program-room (a .s .now) sheet read n count space (found .0) (found .1) (c .before .before .before .before .before .before .before .before .before .before .all .ensures) _ _ _ _ laid (c .before .before .before .before .before .before .before .fill-actions .ensures) start goal-at got (c .before .before .measure .result) (c .before .before .measure .ensures))
+    let is = found (a .s .now) n View.States (laid .at) _ (accepted-length (a .s .now) sheet read) (c .before .before .before .before .before .before .objective-states .ensures) (c .before .before .before .before .start .given .1) (sheet .start) _ (start-stands (a .s .now) sheet read n count space (counts .0) (counts .1) (c .before .before .before .before .before .before .before .before .before .before .all .ensures) _ _ _ _ laid (c .before .before .before .before .before .before .before .fill-actions .ensures)) in
+    (accepted-length (a .s .now) sheet read, program-room (a .s .now) sheet read n count space (counts .0) (counts .1) (c .before .before .before .before .before .before .before .before .before .before .all .ensures) _ _ _ _ laid (c .before .before .before .before .before .before .before .fill-actions .ensures) start goal-at (is .0) (is .1) (c .before .before .measure .result) (c .before .before .measure .ensures))
 
 fill-tests-requires : tie.Need-fill-tests-requires
 fill-tests-requires c κs =
@@ -105,13 +107,13 @@ fill-tests-requires c κs =
     let read = c .before .before .before .before .before .before .before .before .before .before .before .before .before .before .before .before .before .before .before .pre .read in
     let n = c .before .before .before .before .before .before .before .before .before .before .before .before .before .before .before .n .given .0 .0 in
     let count = c .before .before .before .before .before .before .before .before .before .before .before .before .before .before .before .n .given .0 .1 .0 in
-    let found = header-found (a .s .now) sheet read _ n count (c .before .before .before .before .before .before .before .before .before .before .before .before .before .before .before .before .before .header .ensures) (c .before .before .before .before .before .before .before .before .before .before .before .before .before .before .before .n .given .1) in
+    let counts = header-found (a .s .now) sheet read _ n count (c .before .before .before .before .before .before .before .before .before .before .before .before .before .before .before .before .before .header .ensures) (c .before .before .before .before .before .before .before .before .before .before .before .before .before .before .before .n .given .1) in
     let space = c .before .before .before .before .before .before .before .before .before .before .before .before .before .all .result in
     let laid = c .before .before .before .before .before .before .before .before .before .before .fill-actions .result in
     let start = c .before .before .before .before .before .before .before .start .given .0 .0 in
     let goal-at = c .before .before .before .before .before .before .before .start .given .0 .1 .0 in
-    let got = start-found (a .s .now) sheet read n count space (found .0) (found .1) (c .before .before .before .before .before .before .before .before .before .before .before .before .before .all .ensures) _ _ _ _ laid (c .before .before .before .before .before .before .before .before .before .before .fill-actions .ensures) _ start goal-at (c .before .before .before .before .before .before .before .before .before .objective-states .ensures) (c .before .before .before .before .before .before .before .start .given .1) in
-    (accepted-length (a .s .now) sheet read, goal-room (a .s .now) sheet read n count space (found .0) (found .1) (c .before .before .before .before .before .before .before .before .before .before .before .before .before .all .ensures) _ _ _ _ laid (c .before .before .before .before .before .before .before .before .before .before .fill-actions .ensures) start goal-at got (c .before .before .before .before .before .measure .result) (c .before .before .before .before .before .measure .ensures) _ _ _ (c .before .before .fill-program .result) (c .before .before .fill-program .ensures))
+    let is = found (a .s .now) n View.States (laid .at) _ (accepted-length (a .s .now) sheet read) (c .before .before .before .before .before .before .before .before .before .objective-states .ensures) (c .before .before .before .before .before .before .before .start .given .1) (sheet .start) _ (start-stands (a .s .now) sheet read n count space (counts .0) (counts .1) (c .before .before .before .before .before .before .before .before .before .before .before .before .before .all .ensures) _ _ _ _ laid (c .before .before .before .before .before .before .before .before .before .before .fill-actions .ensures)) in
+    (accepted-length (a .s .now) sheet read, goal-room (a .s .now) sheet read n count space (counts .0) (counts .1) (c .before .before .before .before .before .before .before .before .before .before .before .before .before .all .ensures) _ _ _ _ laid (c .before .before .before .before .before .before .before .before .before .before .fill-actions .ensures) start goal-at (is .0) (is .1) (c .before .before .before .before .before .measure .result) (c .before .before .before .before .before .measure .ensures) _ _ _ (c .before .before .fill-program .result) (c .before .before .fill-program .ensures))
 
 add-ends : tie.Need-add-ends
 add-ends c =
@@ -120,13 +122,13 @@ add-ends c =
     let read = c .before .before .before .before .before .before .before .before .before .before .before .before .before .before .before .before .before .before .before .before .before .before .pre .read in
     let n = c .before .before .before .before .before .before .before .before .before .before .before .before .before .before .before .before .before .before .n .given .0 .0 in
     let count = c .before .before .before .before .before .before .before .before .before .before .before .before .before .before .before .before .before .before .n .given .0 .1 .0 in
-    let found = header-found (a .s .now) sheet read _ n count (c .before .before .before .before .before .before .before .before .before .before .before .before .before .before .before .before .before .before .before .before .header .ensures) (c .before .before .before .before .before .before .before .before .before .before .before .before .before .before .before .before .before .before .n .given .1) in
+    let counts = header-found (a .s .now) sheet read _ n count (c .before .before .before .before .before .before .before .before .before .before .before .before .before .before .before .before .before .before .before .before .header .ensures) (c .before .before .before .before .before .before .before .before .before .before .before .before .before .before .before .before .before .before .n .given .1) in
     let space = c .before .before .before .before .before .before .before .before .before .before .before .before .before .before .before .before .all .result in
     let laid = c .before .before .before .before .before .before .before .before .before .before .before .before .before .fill-actions .result in
     let start = c .before .before .before .before .before .before .before .before .before .before .start .given .0 .0 in
     let goal-at = c .before .before .before .before .before .before .before .before .before .before .start .given .0 .1 .0 in
-    let got = start-found (a .s .now) sheet read n count space (found .0) (found .1) (c .before .before .before .before .before .before .before .before .before .before .before .before .before .before .before .before .all .ensures) _ _ _ _ laid (c .before .before .before .before .before .before .before .before .before .before .before .before .before .fill-actions .ensures) _ start goal-at (c .before .before .before .before .before .before .before .before .before .before .before .before .objective-states .ensures) (c .before .before .before .before .before .before .before .before .before .before .start .given .1) in
-    let e = ends-inside (a .s .now) sheet read n count space (found .0) (found .1) (c .before .before .before .before .before .before .before .before .before .before .before .before .before .before .before .before .all .ensures) _ _ _ _ laid (c .before .before .before .before .before .before .before .before .before .before .before .before .before .fill-actions .ensures) start goal-at got (c .before .before .before .before .before .before .before .before .measure .result) (c .before .before .before .before .before .before .before .before .measure .ensures) _ _ _ (c .before .before .before .before .before .fill-program .result) (c .before .before .before .before .before .fill-program .ensures) in omega (arith, e)
+    let is = found (a .s .now) n View.States (laid .at) _ (accepted-length (a .s .now) sheet read) (c .before .before .before .before .before .before .before .before .before .before .before .before .objective-states .ensures) (c .before .before .before .before .before .before .before .before .before .before .start .given .1) (sheet .start) _ (start-stands (a .s .now) sheet read n count space (counts .0) (counts .1) (c .before .before .before .before .before .before .before .before .before .before .before .before .before .before .before .before .all .ensures) _ _ _ _ laid (c .before .before .before .before .before .before .before .before .before .before .before .before .before .fill-actions .ensures)) in
+    let e = ends-inside (a .s .now) sheet read n count space (counts .0) (counts .1) (c .before .before .before .before .before .before .before .before .before .before .before .before .before .before .before .before .all .ensures) _ _ _ _ laid (c .before .before .before .before .before .before .before .before .before .before .before .before .before .fill-actions .ensures) start goal-at (is .0) (is .1) (c .before .before .before .before .before .before .before .before .measure .result) (c .before .before .before .before .before .before .before .before .measure .ensures) _ _ _ (c .before .before .before .before .before .fill-program .result) (c .before .before .before .before .before .fill-program .ensures) in omega (arith, e)
 
 put-node-requires : tie.Need-put-node-requires
 unfolding Small
@@ -136,13 +138,13 @@ put-node-requires c κs =
     let read = c .before .before .before .before .before .before .before .before .before .before .before .before .before .before .before .before .before .before .before .before .before .before .before .pre .read in
     let n = c .before .before .before .before .before .before .before .before .before .before .before .before .before .before .before .before .before .before .before .n .given .0 .0 in
     let count = c .before .before .before .before .before .before .before .before .before .before .before .before .before .before .before .before .before .before .before .n .given .0 .1 .0 in
-    let found = header-found (a .s .now) sheet read _ n count (c .before .before .before .before .before .before .before .before .before .before .before .before .before .before .before .before .before .before .before .before .before .header .ensures) (c .before .before .before .before .before .before .before .before .before .before .before .before .before .before .before .before .before .before .before .n .given .1) in
+    let counts = header-found (a .s .now) sheet read _ n count (c .before .before .before .before .before .before .before .before .before .before .before .before .before .before .before .before .before .before .before .before .before .header .ensures) (c .before .before .before .before .before .before .before .before .before .before .before .before .before .before .before .before .before .before .before .n .given .1) in
     let space = c .before .before .before .before .before .before .before .before .before .before .before .before .before .before .before .before .before .all .result in
     let laid = c .before .before .before .before .before .before .before .before .before .before .before .before .before .before .fill-actions .result in
     let start = c .before .before .before .before .before .before .before .before .before .before .before .start .given .0 .0 in
     let goal-at = c .before .before .before .before .before .before .before .before .before .before .before .start .given .0 .1 .0 in
-    let got = start-found (a .s .now) sheet read n count space (found .0) (found .1) (c .before .before .before .before .before .before .before .before .before .before .before .before .before .before .before .before .before .all .ensures) _ _ _ _ laid (c .before .before .before .before .before .before .before .before .before .before .before .before .before .before .fill-actions .ensures) _ start goal-at (c .before .before .before .before .before .before .before .before .before .before .before .before .before .objective-states .ensures) (c .before .before .before .before .before .before .before .before .before .before .before .start .given .1) in
-    let e = ends-inside (a .s .now) sheet read n count space (found .0) (found .1) (c .before .before .before .before .before .before .before .before .before .before .before .before .before .before .before .before .before .all .ensures) _ _ _ _ laid (c .before .before .before .before .before .before .before .before .before .before .before .before .before .before .fill-actions .ensures) start goal-at got (c .before .before .before .before .before .before .before .before .before .measure .result) (c .before .before .before .before .before .before .before .before .before .measure .ensures) _ _ _ (c .before .before .before .before .before .before .fill-program .result) (c .before .before .before .before .before .before .fill-program .ensures) in (omega (arith, e), tt)
+    let is = found (a .s .now) n View.States (laid .at) _ (accepted-length (a .s .now) sheet read) (c .before .before .before .before .before .before .before .before .before .before .before .before .before .objective-states .ensures) (c .before .before .before .before .before .before .before .before .before .before .before .start .given .1) (sheet .start) _ (start-stands (a .s .now) sheet read n count space (counts .0) (counts .1) (c .before .before .before .before .before .before .before .before .before .before .before .before .before .before .before .before .before .all .ensures) _ _ _ _ laid (c .before .before .before .before .before .before .before .before .before .before .before .before .before .before .fill-actions .ensures)) in
+    let e = ends-inside (a .s .now) sheet read n count space (counts .0) (counts .1) (c .before .before .before .before .before .before .before .before .before .before .before .before .before .before .before .before .before .all .ensures) _ _ _ _ laid (c .before .before .before .before .before .before .before .before .before .before .before .before .before .before .fill-actions .ensures) start goal-at (is .0) (is .1) (c .before .before .before .before .before .before .before .before .before .measure .result) (c .before .before .before .before .before .before .before .before .before .measure .ensures) _ _ _ (c .before .before .before .before .before .before .fill-program .result) (c .before .before .before .before .before .before .fill-program .ensures) in (omega (arith, e), tt)
 
 add-put-node : tie.Need-add-put-node
 add-put-node c =
@@ -151,13 +153,13 @@ add-put-node c =
     let read = c .before .before .before .before .before .before .before .before .before .before .before .before .before .before .before .before .before .before .before .before .before .before .before .before .before .pre .read in
     let n = c .before .before .before .before .before .before .before .before .before .before .before .before .before .before .before .before .before .before .before .before .before .n .given .0 .0 in
     let count = c .before .before .before .before .before .before .before .before .before .before .before .before .before .before .before .before .before .before .before .before .before .n .given .0 .1 .0 in
-    let found = header-found (a .s .now) sheet read _ n count (c .before .before .before .before .before .before .before .before .before .before .before .before .before .before .before .before .before .before .before .before .before .before .before .header .ensures) (c .before .before .before .before .before .before .before .before .before .before .before .before .before .before .before .before .before .before .before .before .before .n .given .1) in
+    let counts = header-found (a .s .now) sheet read _ n count (c .before .before .before .before .before .before .before .before .before .before .before .before .before .before .before .before .before .before .before .before .before .before .before .header .ensures) (c .before .before .before .before .before .before .before .before .before .before .before .before .before .before .before .before .before .before .before .before .before .n .given .1) in
     let space = c .before .before .before .before .before .before .before .before .before .before .before .before .before .before .before .before .before .before .before .all .result in
     let laid = c .before .before .before .before .before .before .before .before .before .before .before .before .before .before .before .before .fill-actions .result in
     let start = c .before .before .before .before .before .before .before .before .before .before .before .before .before .start .given .0 .0 in
     let goal-at = c .before .before .before .before .before .before .before .before .before .before .before .before .before .start .given .0 .1 .0 in
-    let got = start-found (a .s .now) sheet read n count space (found .0) (found .1) (c .before .before .before .before .before .before .before .before .before .before .before .before .before .before .before .before .before .before .before .all .ensures) _ _ _ _ laid (c .before .before .before .before .before .before .before .before .before .before .before .before .before .before .before .before .fill-actions .ensures) _ start goal-at (c .before .before .before .before .before .before .before .before .before .before .before .before .before .before .before .objective-states .ensures) (c .before .before .before .before .before .before .before .before .before .before .before .before .before .start .given .1) in
-    let e = ends-inside (a .s .now) sheet read n count space (found .0) (found .1) (c .before .before .before .before .before .before .before .before .before .before .before .before .before .before .before .before .before .before .before .all .ensures) _ _ _ _ laid (c .before .before .before .before .before .before .before .before .before .before .before .before .before .before .before .before .fill-actions .ensures) start goal-at got (c .before .before .before .before .before .before .before .before .before .before .before .measure .result) (c .before .before .before .before .before .before .before .before .before .before .before .measure .ensures) _ _ _ (c .before .before .before .before .before .before .before .before .fill-program .result) (c .before .before .before .before .before .before .before .before .fill-program .ensures) in omega (arith, e)
+    let is = found (a .s .now) n View.States (laid .at) _ (accepted-length (a .s .now) sheet read) (c .before .before .before .before .before .before .before .before .before .before .before .before .before .before .before .objective-states .ensures) (c .before .before .before .before .before .before .before .before .before .before .before .before .before .start .given .1) (sheet .start) _ (start-stands (a .s .now) sheet read n count space (counts .0) (counts .1) (c .before .before .before .before .before .before .before .before .before .before .before .before .before .before .before .before .before .before .before .all .ensures) _ _ _ _ laid (c .before .before .before .before .before .before .before .before .before .before .before .before .before .before .before .before .fill-actions .ensures)) in
+    let e = ends-inside (a .s .now) sheet read n count space (counts .0) (counts .1) (c .before .before .before .before .before .before .before .before .before .before .before .before .before .before .before .before .before .before .before .all .ensures) _ _ _ _ laid (c .before .before .before .before .before .before .before .before .before .before .before .before .before .before .before .before .fill-actions .ensures) start goal-at (is .0) (is .1) (c .before .before .before .before .before .before .before .before .before .before .before .measure .result) (c .before .before .before .before .before .before .before .before .before .before .before .measure .ensures) _ _ _ (c .before .before .before .before .before .before .before .before .fill-program .result) (c .before .before .before .before .before .before .before .before .fill-program .ensures) in omega (arith, e)
 
 put-node-requires-2 : tie.Need-put-node-requires-2
 unfolding Small
@@ -167,13 +169,13 @@ put-node-requires-2 c κs =
     let read = c .before .before .before .before .before .before .before .before .before .before .before .before .before .before .before .before .before .before .before .before .before .before .before .before .before .pre .read in
     let n = c .before .before .before .before .before .before .before .before .before .before .before .before .before .before .before .before .before .before .before .before .before .n .given .0 .0 in
     let count = c .before .before .before .before .before .before .before .before .before .before .before .before .before .before .before .before .before .before .before .before .before .n .given .0 .1 .0 in
-    let found = header-found (a .s .now) sheet read _ n count (c .before .before .before .before .before .before .before .before .before .before .before .before .before .before .before .before .before .before .before .before .before .before .before .header .ensures) (c .before .before .before .before .before .before .before .before .before .before .before .before .before .before .before .before .before .before .before .before .before .n .given .1) in
+    let counts = header-found (a .s .now) sheet read _ n count (c .before .before .before .before .before .before .before .before .before .before .before .before .before .before .before .before .before .before .before .before .before .before .before .header .ensures) (c .before .before .before .before .before .before .before .before .before .before .before .before .before .before .before .before .before .before .before .before .before .n .given .1) in
     let space = c .before .before .before .before .before .before .before .before .before .before .before .before .before .before .before .before .before .before .before .all .result in
     let laid = c .before .before .before .before .before .before .before .before .before .before .before .before .before .before .before .before .fill-actions .result in
     let start = c .before .before .before .before .before .before .before .before .before .before .before .before .before .start .given .0 .0 in
     let goal-at = c .before .before .before .before .before .before .before .before .before .before .before .before .before .start .given .0 .1 .0 in
-    let got = start-found (a .s .now) sheet read n count space (found .0) (found .1) (c .before .before .before .before .before .before .before .before .before .before .before .before .before .before .before .before .before .before .before .all .ensures) _ _ _ _ laid (c .before .before .before .before .before .before .before .before .before .before .before .before .before .before .before .before .fill-actions .ensures) _ start goal-at (c .before .before .before .before .before .before .before .before .before .before .before .before .before .before .before .objective-states .ensures) (c .before .before .before .before .before .before .before .before .before .before .before .before .before .start .given .1) in
-    let e = ends-inside (a .s .now) sheet read n count space (found .0) (found .1) (c .before .before .before .before .before .before .before .before .before .before .before .before .before .before .before .before .before .before .before .all .ensures) _ _ _ _ laid (c .before .before .before .before .before .before .before .before .before .before .before .before .before .before .before .before .fill-actions .ensures) start goal-at got (c .before .before .before .before .before .before .before .before .before .before .before .measure .result) (c .before .before .before .before .before .before .before .before .before .before .before .measure .ensures) _ _ _ (c .before .before .before .before .before .before .before .before .fill-program .result) (c .before .before .before .before .before .before .before .before .fill-program .ensures) in (omega (arith, e), tt)
+    let is = found (a .s .now) n View.States (laid .at) _ (accepted-length (a .s .now) sheet read) (c .before .before .before .before .before .before .before .before .before .before .before .before .before .before .before .objective-states .ensures) (c .before .before .before .before .before .before .before .before .before .before .before .before .before .start .given .1) (sheet .start) _ (start-stands (a .s .now) sheet read n count space (counts .0) (counts .1) (c .before .before .before .before .before .before .before .before .before .before .before .before .before .before .before .before .before .before .before .all .ensures) _ _ _ _ laid (c .before .before .before .before .before .before .before .before .before .before .before .before .before .before .before .before .fill-actions .ensures)) in
+    let e = ends-inside (a .s .now) sheet read n count space (counts .0) (counts .1) (c .before .before .before .before .before .before .before .before .before .before .before .before .before .before .before .before .before .before .before .all .ensures) _ _ _ _ laid (c .before .before .before .before .before .before .before .before .before .before .before .before .before .before .before .before .fill-actions .ensures) start goal-at (is .0) (is .1) (c .before .before .before .before .before .before .before .before .before .before .before .measure .result) (c .before .before .before .before .before .before .before .before .before .before .before .measure .ensures) _ _ _ (c .before .before .before .before .before .before .before .before .fill-program .result) (c .before .before .before .before .before .before .before .before .fill-program .ensures) in (omega (arith, e), tt)
 
 intersect-requires : tie.Need-intersect-requires
 intersect-requires c κs = search needs
@@ -186,16 +188,16 @@ returns-3 c =
     let read = c .before .before .before .before .before .before .before .before .before .before .before .before .before .before .before .before .before .before .before .before .before .before .before .before .before .before .before .pre .read in
     let n = c .before .before .before .before .before .before .before .before .before .before .before .before .before .before .before .before .before .before .before .before .before .before .before .n .given .0 .0 in
     let count = c .before .before .before .before .before .before .before .before .before .before .before .before .before .before .before .before .before .before .before .before .before .before .before .n .given .0 .1 .0 in
-    let found = header-found (a .s .now) sheet read _ n count (c .before .before .before .before .before .before .before .before .before .before .before .before .before .before .before .before .before .before .before .before .before .before .before .before .before .header .ensures) (c .before .before .before .before .before .before .before .before .before .before .before .before .before .before .before .before .before .before .before .before .before .before .before .n .given .1) in
+    let counts = header-found (a .s .now) sheet read _ n count (c .before .before .before .before .before .before .before .before .before .before .before .before .before .before .before .before .before .before .before .before .before .before .before .before .before .header .ensures) (c .before .before .before .before .before .before .before .before .before .before .before .before .before .before .before .before .before .before .before .before .before .before .before .n .given .1) in
     let space = c .before .before .before .before .before .before .before .before .before .before .before .before .before .before .before .before .before .before .before .before .before .all .result in
     let laid = c .before .before .before .before .before .before .before .before .before .before .before .before .before .before .before .before .before .before .fill-actions .result in
     let start = c .before .before .before .before .before .before .before .before .before .before .before .before .before .before .before .start .given .0 .0 in
     let goal-at = c .before .before .before .before .before .before .before .before .before .before .before .before .before .before .before .start .given .0 .1 .0 in
-    let got = start-found (a .s .now) sheet read n count space (found .0) (found .1) (c .before .before .before .before .before .before .before .before .before .before .before .before .before .before .before .before .before .before .before .before .before .all .ensures) _ _ _ _ laid (c .before .before .before .before .before .before .before .before .before .before .before .before .before .before .before .before .before .before .fill-actions .ensures) _ start goal-at (c .before .before .before .before .before .before .before .before .before .before .before .before .before .before .before .before .before .objective-states .ensures) (c .before .before .before .before .before .before .before .before .before .before .before .before .before .before .before .start .given .1) in (
-      start-accepted (a .s .now) sheet read _ (start-filled (a .s .now) sheet read n count space (found .0) (found .1) (c .before .before .before .before .before .before .before .before .before .before .before .before .before .before .before .before .before .before .before .before .before .all .ensures) _ _ _ _ laid (c .before .before .before .before .before .before .before .before .before .before .before .before .before .before .before .before .before .before .fill-actions .ensures) start goal-at got _ (c .intersect .ensures)),
-      prepared-accepted (a .s .now) sheet read sheetHeads _ _ (heads-filled (a .s .now) sheet read n count space (found .0) (found .1) (c .before .before .before .before .before .before .before .before .before .before .before .before .before .before .before .before .before .before .before .before .before .all .ensures) _ _ _ _ laid (c .before .before .before .before .before .before .before .before .before .before .before .before .before .before .before .before .before .before .fill-actions .ensures)),
-      prepared-accepted (a .s .now) sheet read nodeCells _ _ (nodes-filled (a .s .now) sheet read n count space (found .0) (found .1) (c .before .before .before .before .before .before .before .before .before .before .before .before .before .before .before .before .before .before .before .before .before .all .ensures) _ _ _ _ laid (c .before .before .before .before .before .before .before .before .before .before .before .before .before .before .before .before .before .before .fill-actions .ensures) start goal-at got (c .before .before .before .before .before .before .before .before .before .before .before .before .before .measure .result) (c .before .before .before .before .before .before .before .before .before .before .before .before .before .measure .ensures) _ _ _ (c .before .before .before .before .before .before .before .before .before .before .fill-program .result) (c .before .before .before .before .before .before .before .before .before .before .fill-program .ensures) _ _ _ _ (c .before .before .before .before .before .before .before .fill-tests .result) (c .before .before .before .before .before .before .before .fill-tests .ensures) (c .before .before .before .put-node .ensures) (c .before .put-node2 .ensures)),
-      prepared-accepted (a .s .now) sheet read setWords _ _ (sets-filled (a .s .now) sheet read n count space (found .0) (found .1) (c .before .before .before .before .before .before .before .before .before .before .before .before .before .before .before .before .before .before .before .before .before .all .ensures) _ _ _ _ laid (c .before .before .before .before .before .before .before .before .before .before .before .before .before .before .before .before .before .before .fill-actions .ensures) start goal-at got (c .before .before .before .before .before .before .before .before .before .before .before .before .before .measure .result) (c .before .before .before .before .before .before .before .before .before .before .before .before .before .measure .ensures) _ _ _ (c .before .before .before .before .before .before .before .before .before .before .fill-program .result) (c .before .before .before .before .before .before .before .before .before .before .fill-program .ensures) _ _ _ _ (c .before .before .before .before .before .before .before .fill-tests .result) (c .before .before .before .before .before .before .before .fill-tests .ensures) (c .before .before .before .put-node .ensures) (c .before .put-node2 .ensures)),
+    let is = found (a .s .now) n View.States (laid .at) _ (accepted-length (a .s .now) sheet read) (c .before .before .before .before .before .before .before .before .before .before .before .before .before .before .before .before .before .objective-states .ensures) (c .before .before .before .before .before .before .before .before .before .before .before .before .before .before .before .start .given .1) (sheet .start) _ (start-stands (a .s .now) sheet read n count space (counts .0) (counts .1) (c .before .before .before .before .before .before .before .before .before .before .before .before .before .before .before .before .before .before .before .before .before .all .ensures) _ _ _ _ laid (c .before .before .before .before .before .before .before .before .before .before .before .before .before .before .before .before .before .before .fill-actions .ensures)) in (
+      start-accepted (a .s .now) sheet read _ (start-filled (a .s .now) sheet read n count space (counts .0) (counts .1) (c .before .before .before .before .before .before .before .before .before .before .before .before .before .before .before .before .before .before .before .before .before .all .ensures) _ _ _ _ laid (c .before .before .before .before .before .before .before .before .before .before .before .before .before .before .before .before .before .before .fill-actions .ensures) start goal-at (is .0) (is .1) _ (c .intersect .ensures)),
+      prepared-accepted (a .s .now) sheet read sheetHeads _ _ (heads-filled (a .s .now) sheet read n count space (counts .0) (counts .1) (c .before .before .before .before .before .before .before .before .before .before .before .before .before .before .before .before .before .before .before .before .before .all .ensures) _ _ _ _ laid (c .before .before .before .before .before .before .before .before .before .before .before .before .before .before .before .before .before .before .fill-actions .ensures)),
+      prepared-accepted (a .s .now) sheet read nodeCells _ _ (nodes-filled (a .s .now) sheet read n count space (counts .0) (counts .1) (c .before .before .before .before .before .before .before .before .before .before .before .before .before .before .before .before .before .before .before .before .before .all .ensures) _ _ _ _ laid (c .before .before .before .before .before .before .before .before .before .before .before .before .before .before .before .before .before .before .fill-actions .ensures) start goal-at (is .0) (is .1) (c .before .before .before .before .before .before .before .before .before .before .before .before .before .measure .result) (c .before .before .before .before .before .before .before .before .before .before .before .before .before .measure .ensures) _ _ _ (c .before .before .before .before .before .before .before .before .before .before .fill-program .result) (c .before .before .before .before .before .before .before .before .before .before .fill-program .ensures) _ _ _ _ (c .before .before .before .before .before .before .before .fill-tests .result) (c .before .before .before .before .before .before .before .fill-tests .ensures) (c .before .before .before .put-node .ensures) (c .before .put-node2 .ensures)),
+      prepared-accepted (a .s .now) sheet read setWords _ _ (sets-filled (a .s .now) sheet read n count space (counts .0) (counts .1) (c .before .before .before .before .before .before .before .before .before .before .before .before .before .before .before .before .before .before .before .before .before .all .ensures) _ _ _ _ laid (c .before .before .before .before .before .before .before .before .before .before .before .before .before .before .before .before .before .before .fill-actions .ensures) start goal-at (is .0) (is .1) (c .before .before .before .before .before .before .before .before .before .before .before .before .before .measure .result) (c .before .before .before .before .before .before .before .before .before .before .before .before .before .measure .ensures) _ _ _ (c .before .before .before .before .before .before .before .before .before .before .fill-program .result) (c .before .before .before .before .before .before .before .before .before .before .fill-program .ensures) _ _ _ _ (c .before .before .before .before .before .before .before .fill-tests .result) (c .before .before .before .before .before .before .before .fill-tests .ensures) (c .before .before .before .put-node .ensures) (c .before .put-node2 .ensures)),
     )
 
 pub fill-spec : {M : Type 1} → statement M
