@@ -25,7 +25,7 @@ use Rattle.reader.proofs.NodeLaws.{sheet-short}
 use Rattle.routine.specs.declared.actions.Laid.{Laid}
 use Rattle.routine.specs.Memory.{write, words}
 use Rattle.routine.specs.Tables.{rows, actionSets, headCells}
-use Rattle.routine.specs.Filling.{Theory, Replies, ActionRoom}
+use Rattle.routine.specs.Filling.{Replies, ActionRoom}
 use Rattle.routine.proofs.WriteLaws.{written-on, words-four, spread-step, spread-append, spread-length}
 
 -- What `action_node` answers where an action stands.
@@ -202,11 +202,11 @@ module _ (space : States) where
 
   -- The parts of an action that has room stand behind its first node, and have room.
   module _ (bytes : List ℕ) (n p k : ℕ) (r : ActionNode) (short : length bytes ≤ 1024) (e : actionNodeRead r ≡ ofSheet actionHead bytes p) (here : ActionRoom bytes n space p k) where
-    pub change-room : {end : ℕ} → r ≡ ActionNode.Change end → Theory bytes n end × (k + 257 ≤ 10240)
+    pub change-room : {end : ℕ} → r ≡ ActionNode.Change end → k + 257 ≤ 10240
     change-room g =
         let x = change-found bytes n p r short e g (here .action) (here .next) (here .stands) in
         let l : length (actionSets (member space) (here .action)) ≡ 257 = ap (λ (y : Action). length (actionSets (member space) y)) (x .1) ∙ change-count (x .0) in
-        (record { theory = x .0; next = here .next; stands = x .2 }, omega (arith, l, here .room))
+        omega (arith, l, here .room)
 
     pub probe-room : {m end : ℕ} → r ≡ ActionNode.Probe m end → Replies bytes n end m k
     probe-room g =

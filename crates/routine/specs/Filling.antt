@@ -18,13 +18,7 @@ use Rattle.routine.specs.Memory.{write, words, cells, headMost, nodeMost
 use Rattle.routine.specs.Tables.{rows, actionSets, headCells, atoms, atomSets, tests, size, programAtoms, programSets, programNodes}
 
 module _ (bytes : List ℕ) (n : ℕ) where
-  -- A theory stands at a position.
-  pub record Theory (at : ℕ) : Type 0 where
-    pub theory : Objective
-    pub next : ℕ
-    pub stands : ObjectiveAt bytes n true theory at next
-
-  -- A position is where the theory ends.
+  -- A position is where the theory at another ends.
   abbrev pub TheoryEnds : (at r : ℕ) → Type 0
   TheoryEnds at r = (f : Objective) (q : ℕ) → ObjectiveAt bytes n true f at q → r ≡ q
 
@@ -83,17 +77,11 @@ module _ (bytes : List ℕ) (n : ℕ) where
         × (heads′ ≡ write heads 0 (headCells (member space) 0 actions))
         × (sets′ ≡ write sets 0 (flatMap words (flatMap (actionSets (member space)) actions)))
 
-  -- An objective formula outside a theory stands at a position.
-  pub record Atom (at : ℕ) : Type 0 where
-    pub formula : Objective
-    pub next : ℕ
-    pub stands : ObjectiveAt bytes n false formula at next
-
-  -- r is the extent of an atom with this formula.
+  -- r is the extent of an atom whose objective formula stands at a position.
   abbrev pub AtomMeasures : (at : ℕ) → Extent → Type 0
   AtomMeasures at r = (f : Objective) (q : ℕ) → ObjectiveAt bytes n false f at q → r ≡ record { atoms = 1; at = q }
 
-  -- The test of an atom with this formula and its set are written, and r is its extent.
+  -- The test of such an atom and its set are written, and r is its extent.
   abbrev pub AtomFills : (at base k met unmet : ℕ) (nodes nodes′ sets sets′ : List ℕ) → Extent → Type 0
   AtomFills at base k met unmet nodes nodes′ sets sets′ r =
       (f : Objective) (q : ℕ) → ObjectiveAt bytes n false f at q

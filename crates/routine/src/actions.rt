@@ -13,7 +13,7 @@ use states::States;
 ghost use Prim.Native.Nat.{_+_, _≤_, _<_};
 ghost use lib.ListN.{length};
 ghost use Rattle.routine.specs.Memory.{headMost, setMost};
-ghost use Rattle.routine.specs.Filling.{Theory, TheoryEnds, RowIs, RowsFill, Replies, RepliesFill, ActionRoom, ActionFills, ActionsRoom, ActionsFill};
+ghost use Rattle.routine.specs.Filling.{TheoryEnds, RowIs, RowsFill, Replies, RepliesFill, ActionRoom, ActionFills, ActionsRoom, ActionsFill};
 
 // Where the sets of actions end: in the sheet, and among the sets.
 pub(crate) struct Laid {
@@ -23,7 +23,7 @@ pub(crate) struct Laid {
 
 // Where the theory at a position ends.
 fn theory_end(s: &[u8], at: usize, n: usize) -> usize
-    requires { ⌜ (length (now s) ≤ 1024) × Theory (now s) n at ⌝ }
+    requires { ⌜ length (now s) ≤ 1024 ⌝ }
     ensures { λ r. ⌜ TheoryEnds (now (s .entry)) n at r ⌝ }
 {
     match objective_states(s, at, n, View::Next(0)) {
@@ -34,7 +34,7 @@ fn theory_end(s: &[u8], at: usize, n: usize) -> usize
 
 // The states of a space that may follow a state of it by the theory at a position.
 fn row(s: &[u8], at: usize, n: usize, space: States, state: u8) -> States
-    requires { ⌜ (length (now s) ≤ 1024) × Theory (now s) n at ⌝ }
+    requires { ⌜ length (now s) ≤ 1024 ⌝ }
     ensures { λ r. ⌜ RowIs (now (s .entry)) n at space state r ⌝ }
 {
     if !space.has(state) {
@@ -48,7 +48,7 @@ fn row(s: &[u8], at: usize, n: usize, space: States, state: u8) -> States
 
 // Writes the rows of the theory at a position, from set k on.
 fn fill_rows(s: &[u8], at: usize, n: usize, space: States, k: usize, sets: &mut [u64; SET_WORDS])
-    requires { ⌜ (length (now s) ≤ 1024) × (k + 256 ≤ setMost) × Theory (now s) n at ⌝ }
+    requires { ⌜ (length (now s) ≤ 1024) × (k + 256 ≤ setMost) ⌝ }
     ensures { λ r. ⌜ RowsFill (now (s .entry)) n at space k (now (sets .entry)) (now (sets .exit)) ⌝ }
 {
     for old in 0..256usize {

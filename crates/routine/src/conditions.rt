@@ -12,7 +12,7 @@ use reader::objective_states;
 ghost use Prim.Native.Nat.{_≤_, _<_};
 ghost use lib.ListN.{length};
 ghost use Rattle.routine.specs.Memory.{nodeMost, setMost};
-ghost use Rattle.routine.specs.Filling.{Atom, AtomMeasures, AtomFills, Formula, Measures, FormulaRoom, FormulaFills};
+ghost use Rattle.routine.specs.Filling.{AtomMeasures, AtomFills, Formula, Measures, FormulaRoom, FormulaFills};
 
 // How many atoms an epistemic formula has, and where it ends.
 pub(crate) struct Extent {
@@ -22,7 +22,7 @@ pub(crate) struct Extent {
 
 // The extent of an atom whose objective formula stands at a position.
 fn atom_extent(s: &[u8], at: usize, n: usize) -> Extent
-    requires { ⌜ (length (now s) ≤ 1024) × Atom (now s) n at ⌝ }
+    requires { ⌜ length (now s) ≤ 1024 ⌝ }
     ensures { λ r. ⌜ AtomMeasures (now (s .entry)) n at r ⌝ }
 {
     match objective_states(s, at, n, View::States) {
@@ -71,7 +71,7 @@ fn fill_atom(
     nodes: &mut [u16; NODE_CELLS],
     sets: &mut [u64; SET_WORDS],
 ) -> Extent
-    requires { ⌜ (length (now s) ≤ 1024) × (base < nodeMost) × (k < setMost) × (met < 65536) × (unmet < 65536) × Atom (now s) n at ⌝ }
+    requires { ⌜ (length (now s) ≤ 1024) × (base < nodeMost) × (k < setMost) × (met < 65536) × (unmet < 65536) ⌝ }
     ensures { λ r. ⌜ AtomFills (now (s .entry)) n at base k met unmet (now (nodes .entry)) (now (nodes .exit)) (now (sets .entry)) (now (sets .exit)) r ⌝ }
 {
     match objective_states(s, at, n, View::States) {

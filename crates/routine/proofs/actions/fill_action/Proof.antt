@@ -15,10 +15,10 @@ enum-known-p : tie.Need-enum-known-p
 enum-known-p c = search needs
 
 theory-end-requires : tie.Need-theory-end-requires
-theory-end-requires c κs = (c .before .before .before .before .before .pre .0, change-room _ _ _ _ _ _ (c .before .before .before .before .before .pre .0) (c .before .before .before .action-node .ensures) (c .before .before .before .before .before .pre .2) (c .before .p .given .1) .0)
+theory-end-requires c κs = c .before .before .before .before .before .pre .0
 
 fill-rows-requires : tie.Need-fill-rows-requires
-fill-rows-requires c κs = let x = change-room _ _ _ _ _ _ (c .before .before .before .before .before .before .before .pre .0) (c .before .before .before .before .before .action-node .ensures) (c .before .before .before .before .before .before .before .pre .2) (c .before .before .before .p .given .1) in (c .before .before .before .before .before .before .before .pre .0, omega (arith, x .1), x .0)
+fill-rows-requires c κs = let x = change-room _ _ _ _ _ _ (c .before .before .before .before .before .before .before .pre .0) (c .before .before .before .before .before .action-node .ensures) (c .before .before .before .before .before .before .before .pre .2) (c .before .before .before .p .given .1) in (c .before .before .before .before .before .before .before .pre .0, omega (arith, x))
 
 add-put-set : tie.Need-add-put-set
 add-put-set c = search needs
@@ -27,7 +27,7 @@ uniform-requires : tie.Need-uniform-requires
 uniform-requires c κs = search needs
 
 put-set-requires : tie.Need-put-set-requires
-put-set-requires c κs = omega (arith, change-room _ _ _ _ _ _ (c .before .before .before .before .before .before .before .before .before .before .pre .0) (c .before .before .before .before .before .before .before .before .action-node .ensures) (c .before .before .before .before .before .before .before .before .before .before .pre .2) (c .before .before .before .before .before .before .p .given .1) .1)
+put-set-requires c κs = omega (arith, change-room _ _ _ _ _ _ (c .before .before .before .before .before .before .before .before .before .before .pre .0) (c .before .before .before .before .before .before .before .before .action-node .ensures) (c .before .before .before .before .before .before .before .before .before .before .pre .2) (c .before .before .before .before .before .before .p .given .1))
 
 add-put-head : tie.Need-add-put-head
 add-put-head c = search needs

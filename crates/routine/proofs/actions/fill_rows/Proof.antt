@@ -29,7 +29,7 @@ cast-state : tie.Need-cast-state Inv-loop μ-loop
 cast-state c = omega arith
 
 row-requires : tie.Need-row-requires Inv-loop μ-loop
-row-requires c κs = (c .before .before .before .pre .0, c .before .before .before .pre .2)
+row-requires c κs = c .before .before .before .pre .0
 
 add-put-set : tie.Need-add-put-set Inv-loop μ-loop
 add-put-set c = omega (arith, c .before .before .before .before .before .pre .1)

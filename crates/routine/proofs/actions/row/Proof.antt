@@ -34,14 +34,14 @@ intersect-requires c κs = search needs
 
 returns-2 : tie.Need-returns-2
 unfolding inTheory
-returns-2 c = λ f q h. never-refused _ _ _ _ _ (c .before .before .before .before .before .before .before .before .pre .0) (c .before .before .before .before .objective-states .ensures) (c .before .before .r .given .1) f q h
+returns-2 c = λ f q h. never-refused _ _ _ _ _ (c .before .before .before .before .before .before .before .before .pre) (c .before .before .before .before .objective-states .ensures) (c .before .before .r .given .1) f q h
 
 returns-3 : tie.Need-returns-3
 unfolding inTheory
 returns-3 c = λ f q h.
     c .intersect .ensures
     ∙ row-inside _ f _ (sym (c .before .before .before .before .before .before .has .ensures) ∙ not-false _ (c .before .before .before .before .before .if1 .left))
-    (found _ _ _ _ _ (c .before .before .before .before .before .before .before .before .pre .0) (c .before .before .before .before .objective-states .ensures) (c .before .before .set .given .1) f q h .0)
+    (found _ _ _ _ _ (c .before .before .before .before .before .before .before .before .pre) (c .before .before .before .before .objective-states .ensures) (c .before .before .set .given .1) f q h .0)
 
 pub row-spec : {M : Type 1} → statement M
 row-spec =

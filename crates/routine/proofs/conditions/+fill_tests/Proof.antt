@@ -96,9 +96,8 @@ module _ (t : ℕ) where
   fill-atom-requires : lts.Need-fill-atom-requires (calls t) (given t) self.Post
   fill-atom-requires c κs =
       let d = c .before .before .before .before .before .before .before in
-      let h = known-at (c .before .before) (d .pre .1 .1 .formula) (d .pre .1 .1 .next) (d .pre .1 .1 .read) in
       let room = atom-room _ _ (d .args .left) _ _ _ _ (d .pre .1 .1) in
-      (d .pre .1 .0, room .0, room .1, room .2, room .3, record { formula = h .inner; next = d .pre .1 .1 .next; stands = h .stands })
+      (d .pre .1 .0, room .0, room .1, room .2, room .3)
 
   enum-known-p-2 : lts.Need-enum-known-p-2 (calls t) (given t) self.Post
   enum-known-p-2 c = search needs
@@ -106,9 +105,8 @@ module _ (t : ℕ) where
   fill-atom-requires-2 : lts.Need-fill-atom-requires-2 (calls t) (given t) self.Post
   fill-atom-requires-2 c κs =
       let d = c .before .before .before .before .before .before .before in
-      let h = not-known-at (c .before .before) (d .pre .1 .1 .formula) (d .pre .1 .1 .next) (d .pre .1 .1 .read) in
       let room = atom-room _ _ (d .args .left) _ _ _ _ (d .pre .1 .1) in
-      (d .pre .1 .0, room .0, room .1, room .3, room .2, record { formula = h .inner; next = d .pre .1 .1 .next; stands = h .stands })
+      (d .pre .1 .0, room .0, room .1, room .3, room .2)
 
   enum-known-p-3 : lts.Need-enum-known-p-3 (calls t) (given t) self.Post
   enum-known-p-3 c = search needs

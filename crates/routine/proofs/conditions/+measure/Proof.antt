@@ -93,19 +93,13 @@ module _ (t : ℕ) where
   enum-known-p c = search needs
 
   atom-extent-requires : lts.Need-atom-extent-requires (calls t) (given t) self.Post
-  atom-extent-requires c κs =
-      let d = c .before .before .before .before .before in
-      let h = known-at c (d .pre .1 .1 .formula) (d .pre .1 .1 .next) (d .pre .1 .1 .read) in
-      (d .pre .1 .0, record { formula = h .inner; next = d .pre .1 .1 .next; stands = h .stands })
+  atom-extent-requires c κs = c .before .before .before .before .before .pre .1 .0
 
   enum-known-p-2 : lts.Need-enum-known-p-2 (calls t) (given t) self.Post
   enum-known-p-2 c = search needs
 
   atom-extent-requires-2 : lts.Need-atom-extent-requires-2 (calls t) (given t) self.Post
-  atom-extent-requires-2 c κs =
-      let d = c .before .before .before .before .before in
-      let h = not-known-at c (d .pre .1 .1 .formula) (d .pre .1 .1 .next) (d .pre .1 .1 .read) in
-      (d .pre .1 .0, record { formula = h .inner; next = d .pre .1 .1 .next; stands = h .stands })
+  atom-extent-requires-2 c κs = c .before .before .before .before .before .pre .1 .0
 
   enum-known-p-3 : lts.Need-enum-known-p-3 (calls t) (given t) self.Post
   enum-known-p-3 c = search needs

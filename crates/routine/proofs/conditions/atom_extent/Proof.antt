@@ -17,13 +17,13 @@ enum-known-set c = search needs
 
 returns : tie.Need-returns
 unfolding inTheory
-returns c = λ f q h. never-refused _ _ _ _ _ (c .before .before .before .before .before .pre .0) (c .before .before .before .objective-states .ensures) (c .before .r .given .1) f q h
+returns c = λ f q h. never-refused _ _ _ _ _ (c .before .before .before .before .before .pre) (c .before .before .before .objective-states .ensures) (c .before .r .given .1) f q h
 
 returns-2 : tie.Need-returns-2
 unfolding inTheory
 returns-2 c = λ f q h.
     ap (λ e. record { atoms = 1; at = e })
-    (found _ _ _ _ _ (c .before .before .before .before .before .pre .0) (c .before .before .before .objective-states .ensures) (c .before .set .given .1) f q h .1)
+    (found _ _ _ _ _ (c .before .before .before .before .before .pre) (c .before .before .before .objective-states .ensures) (c .before .set .given .1) f q h .1)
 
 pub atom-extent-spec : {M : Type 1} → statement M
 atom-extent-spec = tie.close (tie.spec objective-states-requires enum-known-r enum-known-set returns returns-2)

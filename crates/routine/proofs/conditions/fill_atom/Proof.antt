@@ -37,8 +37,7 @@ returns-2 : tie.Need-returns-2
 unfolding inTheory
 returns-2 c = λ f q h.
     let d = c .before .before .before .before .before .before .before .before .before in
-    let is = found _ _ _ _ _ (d .pre .0) (c .before .before .before .before .before .before .before .objective-states .ensures) (c .before .before .before .before .before .set .given .1) f q h in
-    (
+    let is = found _ _ _ _ _ (d .pre .0) (c .before .before .before .before .before .before .before .objective-states .ensures) (c .before .before .before .before .before .set .given .1) f q h in (
       ap (λ e. record { atoms = 1; at = e }) (is .1),
       c .before .before .put-node .ensures,
       c .put-set .ensures ∙ ap (λ (set : States). write (now (d .args .sets)) (4 * d .args .k) (words set)) (is .0 ∙ table-holds f),
