@@ -165,6 +165,15 @@ mem-upFrom a zero n p q = absurd (omega arith)
 mem-upFrom a (suc k) n p q =
     ⊎-elim (λ (e : a ≡ n). List·Memᴰ·head (sym e)) (λ h. List·Memᴰ·tail (mem-upFrom (suc a) k n h (omega arith))) (eq-or-lt-of-le p)
 
+-- Tests joined by "or".
+pub or-assoc : (a b c : Bool) → (a || b) || c ≡ (a || (b || c))
+or-assoc true b c = refl
+or-assoc false b c = refl
+
+pub or-none : (a : Bool) → (a || false) ≡ a
+or-none true = refl
+or-none false = refl
+
 -- Tests that agree on a list agree on all its elements, and on whether there is one.
 pub every-same : {A : Type 0} (f g : A → Bool) (xs : List A) → ((a : A) → List·Memᴰ a xs → f a ≡ g a) → every f xs ≡ every g xs
 unfolding every

@@ -11,7 +11,7 @@ use lib.Dec.{eqb, ltb}
 use lib.Bits.{bitAnd}
 use lib.Count.{trailingZeros}
 use Rattle.lists.specs.Lists.{if_then_else_, upFrom, below, exists}
-use Rattle.lists.proofs.ListLaws.{exists-same, same-test, not-both, both-true, and-both, one-true, or-left, or-right, exists-mem, mem-exists, upFrom-mem, mem-upFrom}
+use Rattle.lists.proofs.ListLaws.{or-assoc, or-none, exists-same, same-test, not-both, both-true, and-both, one-true, or-left, or-right, exists-mem, mem-exists, upFrom-mem, mem-upFrom}
 use Rattle.states.specs.declared.States.{States}
 use Rattle.states.specs.Sets.{bit, word, member, setOf}
 use Rattle.states.proofs.BitLaws.{bit-none, lowest-set, bit-cleared}
@@ -19,15 +19,6 @@ use Rattle.states.proofs.SetLaws.{Fitting, in-word, member-setOf, set-is, set-c
 use Rattle.routine.specs.declared.memory.Head.{Head}
 use Rattle.routine.specs.Memory.{setAt, headAt}
 use Rattle.progression.specs.Machine.{gathered, effect, stepped}
-
--- Laws of "or".
-or-assoc : (a b c : Bool) → (a || b) || c ≡ (a || (b || c))
-or-assoc true b c = refl
-or-assoc false b c = refl
-
-or-none : (b : Bool) → b || false ≡ b
-or-none true = refl
-or-none false = refl
 
 -- An element among the numbers from a on is among the first j of them or behind those.
 exists-split : (test : ℕ → Bool) (a j k : ℕ) → exists test (upFrom a (j + k)) ≡ (exists test (upFrom a j) || exists test (upFrom (a + j) k))

@@ -84,21 +84,24 @@ module _ (nodes : List ℕ) (known : ℕ → Bool) where
 
   -- By what stands there.
   module _ (i : ℕ) (h : i < nodeMost) where
+    goes-by : (node : Node) → nodeAt nodes i ≡ node → goesTo i ≡ atNode known node i (λ skip. goesTo (i + 1 + skip))
+    goes-by node e = goes-on i h ∙ ap (λ (x : Node). atNode known x i (λ skip. goesTo (i + 1 + skip))) e
+
     pub goes-act : (a : ℕ) → nodeAt nodes i ≡ Node.Act a → goesTo i ≡ Place.Act i a
     unfolding atNode
-    goes-act a e = goes-on i h ∙ ap (λ (node : Node). atNode known node i (λ skip. goesTo (i + 1 + skip))) e
+    goes-act a e = goes-by (Node.Act a) e
 
     pub goes-end : (holds : Bool) → nodeAt nodes i ≡ Node.End holds → goesTo i ≡ Place.End holds
     unfolding atNode
-    goes-end holds e = goes-on i h ∙ ap (λ (node : Node). atNode known node i (λ skip. goesTo (i + 1 + skip))) e
+    goes-end holds e = goes-by (Node.End holds) e
 
     pub goes-jump : (skip : ℕ) → nodeAt nodes i ≡ Node.Jump skip → goesTo i ≡ goesTo (i + 1 + skip)
     unfolding atNode
-    goes-jump skip e = goes-on i h ∙ ap (λ (node : Node). atNode known node i (λ skip. goesTo (i + 1 + skip))) e
+    goes-jump skip e = goes-by (Node.Jump skip) e
 
     goes-test : (k met unmet : ℕ) → nodeAt nodes i ≡ Node.Test k met unmet → goesTo i ≡ goesTo (i + 1 + (if known k then met else unmet))
     unfolding atNode
-    goes-test k met unmet e = goes-on i h ∙ ap (λ (node : Node). atNode known node i (λ skip. goesTo (i + 1 + skip))) e
+    goes-test k met unmet e = goes-by (Node.Test k met unmet) e
 
     pub goes-met : (k met unmet : ℕ) → nodeAt nodes i ≡ Node.Test k met unmet → known k ≡ true → goesTo i ≡ goesTo (i + 1 + met)
     unfolding if_then_else_

@@ -122,12 +122,16 @@ module _ (node : ℕ → Node) (table : ℕ → States) (goal-at count : ℕ) wh
   -- Where a set of states is possible; `goesTo` tells where the program settles from a node on.
   module _ (set : States) (goesTo : ℕ → Place)
       (goes : (i : ℕ) → i < nodeMost → goesTo i ≡ atNode (λ k. every (member (table k)) (members set)) (node i) i (λ skip. goesTo (i + 1 + skip))) where
+    -- A node that stands there leads on by what it is.
+    goes-by : (i : ℕ) (x : Node) → i < nodeMost → node i ≡ x → goesTo i ≡ atNode (λ k. every (member (table k)) (members set)) x i (λ skip. goesTo (i + 1 + skip))
+    goes-by i x l e = goes i l ∙ ap (λ (y : Node). atNode (λ k. every (member (table k)) (members set)) y i (λ skip. goesTo (i + 1 + skip))) e
+
     -- A test goes on by whether its formula is known.
     atom-goes : (g : Objective) (i k met unmet : ℕ) → NodesAt i (Node.Test k met unmet ∷ []) → SetsAt k (setOf (λ s. holds g s) ∷ [])
         → goesTo i ≡ goesTo (i + 1 + (if every (holds g) (members set) then met else unmet))
     unfolding atNode
     atom-goes g i k met unmet r s =
-        goes i (omega (arith, r .1)) ∙ ap (λ (x : Node). atNode (λ k. every (member (table k)) (members set)) x i (λ skip. goesTo (i + 1 + skip))) (row-first node (Node.End false) i _ [] (r .0))
+        goes-by i _ (omega (arith, r .1)) (row-first node (Node.End false) i _ [] (r .0))
         ∙ ap (λ (b : Bool). goesTo (i + 1 + (if b then met else unmet))) (table-known table set k g (row-first table noStates k _ [] s))
 
     swapped : (b : Bool) (met unmet : ℕ) → _≡_ {A = ℕ} (if b then unmet else met) (if not b then met else unmet)
@@ -181,7 +185,7 @@ module _ (node : ℕ → Node) (table : ℕ → States) (goal-at count : ℕ) wh
     unfolding atNode
     leads-go i out (inl e) = ap goesTo e
     leads-go i out (inr jump) =
-        goes i (jump .2) ∙ ap (λ (x : Node). atNode (λ k. every (member (table k)) (members set)) x i (λ skip. goesTo (i + 1 + skip))) (jump .1) ∙ ap goesTo (jump .3)
+        goes-by i _ (jump .2) (jump .1) ∙ ap goesTo (jump .3)
 
     -- What is left stands where the program settles.
     pub record Settles (i : ℕ) (ps : List Program) : Type 0 where
@@ -225,8 +229,7 @@ module _ (node : ℕ → Node) (table : ℕ → States) (goal-at count : ℕ) wh
     unfolding ProgramsAt programNodes programSets size NumbersBelow atNode
     action-settles a rest ps i at =
         let e : i + suc (size rest) ≡ i + 1 + size rest = omega arith in (
-          goes i (omega (arith, at .2 .1)) ∙ ap (λ (x : Node). atNode (λ k. every (member (table k)) (members set)) x i (λ skip. goesTo (i + 1 + skip)))
-              (row-first node (Node.End false) i (Node.Act a) (programNodes rest (at .0)) (at .2 .0)),
+          goes-by i _ (omega (arith, at .2 .1)) (row-first node (Node.End false) i (Node.Act a) (programNodes rest (at .0)) (at .2 .0)),
           (at .0, at .1, nodes-right i (Node.Act a ∷ []) (programNodes rest (at .0)) (i + 1) refl (at .2), at .3, at .4 .1, subst (λ (v : ℕ). Leads v (at .1)) e (at .5), at .6),
           at .4 .0,
         )
@@ -234,8 +237,7 @@ module _ (node : ℕ → Node) (table : ℕ → States) (goal-at count : ℕ) wh
     end-settles : (b : Bool) (i j : ℕ) (xs : List Node) → i ≡ j → NodesAt j (Node.End b ∷ xs) → goesTo i ≡ Place.End b
     unfolding atNode
     end-settles b i j xs e r =
-        ap goesTo e ∙ goes j (omega (arith, r .1)) ∙ ap (λ (x : Node). atNode (λ k. every (member (table k)) (members set)) x j (λ skip. goesTo (j + 1 + skip)))
-        (row-first node (Node.End false) j (Node.End b) xs (r .0))
+        ap goesTo e ∙ goes-by j _ (omega (arith, r .1)) (row-first node (Node.End false) j (Node.End b) xs (r .0))
 
     -- At the goal it settles at an end, by whether the goal holds.
     pub goal-settles : (goal : Epistemic) (k : ℕ) → NodesAt goal-at (tests goal k 0 1 ++ (Node.End true ∷ Node.End false ∷ [])) → SetsAt k (atomSets goal)

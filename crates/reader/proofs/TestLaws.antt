@@ -10,7 +10,7 @@ use lib.Dec.{leb, eqb}
 use lib.ListN.{length, getD}
 use borrow.Author.Tests.{eq-eqb, ne-eqb, le-leb, lt-leb, not-true}
 use Rattle.lists.specs.Lists.{if_then_else_, upFrom, below, every, exists, nonempty}
-use Rattle.lists.proofs.ListLaws.{two-cases, same-test, not-both, both-true, and-both, one-true, every-mem, mem-every, exists-mem, mem-exists, mem-nonempty, nonempty-mem}
+use Rattle.lists.proofs.ListLaws.{or-assoc, or-none, two-cases, same-test, not-both, both-true, and-both, one-true, every-mem, mem-every, exists-mem, mem-exists, mem-nonempty, nonempty-mem}
 use Rattle.states.specs.declared.States.{States}
 use Rattle.states.specs.Sets.{member, setOf, members}
 use Rattle.states.proofs.SetLaws.{member-setOf, set-cong, members-mem, mem-members}
@@ -52,15 +52,6 @@ module _ {A B : Type 0} (g : A → B) where
       go : (o : Read A) → andThen o (λ a q. give (g a) s q) ≡ mapped g o
       go (got a q) = refl
       go (fault r) = refl
-
--- Tests joined by "or".
-or-assoc : (a b c : Bool) → (a || b) || c ≡ (a || (b || c))
-or-assoc true b c = refl
-or-assoc false b c = refl
-
-or-none : (a : Bool) → (a || false) ≡ a
-or-none true = refl
-or-none false = refl
 
 -- The states of a set and those in which one of some formulas holds.
 abbrev pub joinedTo : States → List Objective → States

@@ -25,7 +25,7 @@ use Rattle.reader.proofs.NodeLaws.{sheet-short}
 use Rattle.routine.specs.declared.actions.Laid.{Laid}
 use Rattle.routine.specs.Memory.{write, words}
 use Rattle.routine.specs.Tables.{rows, actionSets, headCells}
-use Rattle.routine.specs.Filling.{Replies, ActionRoom}
+use Rattle.routine.specs.Filling.{Replies, ActionRoom, ActionWritten}
 use Rattle.routine.proofs.WriteLaws.{written-on, words-four, spread-step, spread-append, spread-length}
 
 -- What `action_node` answers where an action stands.
@@ -214,22 +214,15 @@ module _ (space : States) where
         let l : length (actionSets (member space) (here .action)) ≡ length (x .0) = ap (λ (y : Action). length (actionSets (member space) y)) (x .1) ∙ probe-count (x .0) in
         record { formulas = x .0; next = here .next; stand = x .3; all = x .2; room = omega (arith, l, x .2, here .room) }
 
-  -- The head and the sets of an action are written, and r is where they end.
-  abbrev pub ActionWritten : (a k : ℕ) (heads heads′ sets sets′ : List ℕ) (r : Laid) (x : Action) (q : ℕ) → Type 0
-  ActionWritten a k heads heads′ sets sets′ r x q =
-      (r ≡ record { at = q; set = k + length (actionSets (member space) x) })
-      × (heads′ ≡ write heads (3 * a) (headCells (member space) k (x ∷ [])))
-      × (sets′ ≡ write sets (4 * k) (flatMap words (actionSets (member space) x)))
-
   module _ (a k : ℕ) (heads heads′ sets sets′ : List ℕ) (q : ℕ) where
     -- Of a change: its rows, the set of all states, and its head.
     pub change-filled : (x : Action) (f : Objective) (end : ℕ) (middle : List ℕ) (full : States) → x ≡ change f → end ≡ q
         → middle ≡ write sets (4 * k) (flatMap words (rows (member space) (change f))) → full ≡ setOf (λ s. true)
         → sets′ ≡ write middle (4 * (k + 256)) (words full) → heads′ ≡ write heads (3 * a) (k ∷ (k + 256) ∷ 1 ∷ [])
-        → ActionWritten a k heads heads′ sets sets′ (record { at = end; set = k + 257 }) x q
+        → ActionWritten space a k heads heads′ sets sets′ (record { at = end; set = k + 257 }) x q
     unfolding headCells words flatMap
     change-filled x f end middle full e d r u w h =
-        subst (λ (y : Action). ActionWritten a k heads heads′ sets sets′ (record { at = end; set = k + 257 }) y q) (sym e) (
+        subst (λ (y : Action). ActionWritten space a k heads heads′ sets sets′ (record { at = end; set = k + 257 }) y q) (sym e) (
           ap₂ (λ (i j : ℕ). record { at = i; set = k + j }) d (sym (change-count f)),
           h ∙ ap (λ (j : ℕ). write heads (3 * a) (k ∷ (k + j) ∷ 1 ∷ [])) (sym (rows-count space f)),
           written-on sets middle sets′ (4 * k) (4 * (k + 256)) (flatMap words (rows (member space) (change f))) (words (setOf (λ s. true))) r
@@ -242,11 +235,11 @@ module _ (space : States) where
     -- Of a probe: the tables of its replies, and its head.
     pub probe-filled : (x : Action) (fs : List Objective) (m end : ℕ) → x ≡ probe fs → length fs ≡ m
         → (end ≡ q) × (sets′ ≡ write sets (4 * k) (flatMap words (map tableOf fs))) → heads′ ≡ write heads (3 * a) (k ∷ k ∷ m ∷ [])
-        → ActionWritten a k heads heads′ sets sets′ (record { at = end; set = k + m }) x q
+        → ActionWritten space a k heads heads′ sets sets′ (record { at = end; set = k + m }) x q
     unfolding headCells rows replyCount
     probe-filled x fs m end e l w h =
         let z : k ≡ k + 0 = omega arith in
-        subst (λ (y : Action). ActionWritten a k heads heads′ sets sets′ (record { at = end; set = k + m }) y q) (sym e) (
+        subst (λ (y : Action). ActionWritten space a k heads heads′ sets sets′ (record { at = end; set = k + m }) y q) (sym e) (
           ap₂ (λ (i j : ℕ). record { at = i; set = k + j }) (w .0) (sym (probe-count fs ∙ l)),
           h ∙ ap₂ (λ (i j : ℕ). write heads (3 * a) (k ∷ i ∷ j ∷ [])) z (sym l),
           w .1 ∙ ap (λ (us : List States). write sets (4 * k) (flatMap words us)) (sym (probe-sets fs)),

@@ -18,12 +18,12 @@ use Rattle.reader.proofs.StandingLaws.{epistemic-inside, standing-epistemic}
 use Rattle.routine.specs.declared.conditions.Extent.{Extent}
 use Rattle.routine.specs.Memory.{write, words, cells}
 use Rattle.routine.specs.Tables.{atoms, atomSets, tests}
-use Rattle.routine.specs.Filling.{AtomMeasures, AtomFills, Formula, Measures, FormulaRoom, FormulaFills}
+use Rattle.routine.specs.Filling.{AtomMeasures, AtomFills, Formula, Measures, FormulaRoom, FormulaFills, TestsWritten}
 use Rattle.routine.proofs.SizeLaws.{tests-length, atom-sets-length, some-atom, atoms-bits}
 use Rattle.routine.proofs.WriteLaws.{spread-one, spread-back, words-four, cells-four}
 
 module _ (bytes : List ℕ) (n : ℕ) where
-  -- So it has at most as many as a sheet has bits.
+  -- A formula that is read has at most as many atoms as a sheet has bits.
   atoms-few : (left p : ℕ) (f : Epistemic) (q : ℕ) → length bytes ≤ 1024 → left ≤ 16 → epistemic n left bytes p ≡ got f q → atoms f ≤ 8192
   atoms-few left p f q short l e =
       let s = standing-epistemic bytes n left l p .found f q e in
@@ -153,13 +153,6 @@ module _ (bytes : List ℕ) (n left : ℕ) where
     unfolding atoms
     measured-any-of h = rw (h .is) (pair-extent h mx my)
 
--- The tests and the sets of a formula are written from node `base` and from set k on, and r is its extent.
-abbrev TestsWritten : (base k met unmet : ℕ) (f : Epistemic) (q : ℕ) (nodes nodes′ sets sets′ : List ℕ) → Extent → Type 0
-TestsWritten base k met unmet f q nodes nodes′ sets sets′ r =
-    (r ≡ record { atoms = atoms f; at = q })
-    × (nodes′ ≡ write nodes (4 * base) (flatMap cells (tests f k met unmet)))
-    × (sets′ ≡ write sets (4 * k) (flatMap words (atomSets f)))
-
 module _ (bytes : List ℕ) (n left base k met unmet : ℕ) where
   -- Those of an atom are one test and one set.
   module _ (f : Epistemic) (p q : ℕ) (nodes sets : List ℕ) {nodes′ sets′ : List ℕ} {r : Extent} where
@@ -211,7 +204,7 @@ module _ (bytes : List ℕ) (n left base k met unmet : ℕ) where
   pub atom-room : {at : ℕ} (r : FormulaRoom bytes n left at base k met unmet) → (base < 2048) × (k < 10240) × (met < 65536) × (unmet < 65536)
   atom-room r =
       let some = some-atom (r .formula) in
-      (omega (arith, r .nodes-room), omega (arith, r .sets-room), omega (arith, r .met-inside), omega (arith, r .unmet-inside))
+      (omega (arith, r .met-inside), omega (arith, r .sets-room), omega (arith, r .met-inside), omega (arith, r .unmet-inside))
 
   -- Room for two parts.
   module _ {at p : ℕ} (room : FormulaRoom bytes n left at base k met unmet) {make : Epistemic → Epistemic → Epistemic} (h : PairAt bytes n left make (room .formula) p (room .next))
@@ -219,7 +212,7 @@ module _ (bytes : List ℕ) (n left base k met unmet : ℕ) where
     pub second-fits : (base + x .atoms ≤ 2048) × (k + x .atoms ≤ 10240)
     second-fits =
         let a = ap (λ (v : Extent). v .atoms) (first-extent bytes n left h mx) in
-        (omega (arith, room .nodes-room, h .many), omega (arith, room .sets-room, h .many))
+        (omega (arith, room .met-inside, h .many), omega (arith, room .sets-room, h .many))
 
     pub second-room : FormulaRoom bytes n (left - 1) (x .at) (base + x .atoms) (k + x .atoms) met unmet
     second-room =
@@ -229,7 +222,6 @@ module _ (bytes : List ℕ) (n left base k met unmet : ℕ) where
           next = room .next;
           read = second-read-at bytes n left h mx;
           levels = omega (arith, room .levels);
-          nodes-room = omega (arith, room .nodes-room, h .many);
           sets-room = omega (arith, room .sets-room, h .many);
           met-inside = omega (arith, room .met-inside, h .many);
           unmet-inside = omega (arith, room .unmet-inside, h .many);
@@ -240,7 +232,7 @@ module _ (bytes : List ℕ) (n left base k met unmet : ℕ) where
       both = (ap (λ (v : Extent). v .atoms) (first-extent bytes n left h mx), ap (λ (v : Extent). v .atoms) (second-extent bytes n left h mx my))
 
       pub first-fits : (y .atoms + met ≤ 2048) × (y .atoms + unmet ≤ 2048) × (x .atoms + y .atoms ≤ 2048)
-      first-fits = let b = both in (omega (arith, room .met-inside, h .many), omega (arith, room .unmet-inside, h .many), omega (arith, room .nodes-room, h .many))
+      first-fits = let b = both in (omega (arith, room .met-inside, h .many), omega (arith, room .unmet-inside, h .many), omega (arith, room .met-inside, h .many))
 
       first-room : (m u : ℕ) → base + atoms (h .first) + m ≤ 2048 → base + atoms (h .first) + u ≤ 2048 → FormulaRoom bytes n (left - 1) p base k m u
       first-room m u lm lu =
@@ -249,7 +241,6 @@ module _ (bytes : List ℕ) (n left base k met unmet : ℕ) where
             next = h .middle;
             read = h .first-read;
             levels = omega (arith, room .levels);
-            nodes-room = omega (arith, room .nodes-room, h .many);
             sets-room = omega (arith, room .sets-room, h .many);
             met-inside = lm;
             unmet-inside = lu;
@@ -258,9 +249,9 @@ module _ (bytes : List ℕ) (n left base k met unmet : ℕ) where
       pub first-room-all : FormulaRoom bytes n (left - 1) p base k 0 (y .atoms + unmet)
       first-room-all =
           let b = both in
-          first-room 0 (y .atoms + unmet) (omega (arith, room .nodes-room, h .many)) (omega (arith, room .unmet-inside, h .many))
+          first-room 0 (y .atoms + unmet) (omega (arith, room .met-inside, h .many)) (omega (arith, room .unmet-inside, h .many))
 
       pub first-room-any : FormulaRoom bytes n (left - 1) p base k (y .atoms + met) 0
       first-room-any =
           let b = both in
-          first-room (y .atoms + met) 0 (omega (arith, room .met-inside, h .many)) (omega (arith, room .nodes-room, h .many))
+          first-room (y .atoms + met) 0 (omega (arith, room .met-inside, h .many)) (omega (arith, room .met-inside, h .many))

@@ -206,7 +206,6 @@ module _ (bytes : List ℕ) (sheet : Sheet) (read : reading bytes ≡ accepted s
               next = stands .program-at;
               read = goal-read;
               levels = omega arith;
-              nodes-room = omega (arith, room .nodes-room, program-node);
               sets-room = omega (arith, room .sets-room, program-set);
               met-inside = omega (arith, room .nodes-room, program-node);
               unmet-inside = omega (arith, room .nodes-room, program-node);

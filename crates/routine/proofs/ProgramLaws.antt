@@ -18,7 +18,7 @@ use Rattle.routine.specs.declared.conditions.Extent.{Extent}
 use Rattle.routine.specs.declared.program.Filled.{Filled}
 use Rattle.routine.specs.Memory.{write, words, cells, Small}
 use Rattle.routine.specs.Tables.{atoms, atomSets, tests, size, programAtoms, programSets, programNodes}
-use Rattle.routine.specs.Filling.{Formula, Measures, FormulaRoom, FormulaFills, ProgramRoom, ProgramFills}
+use Rattle.routine.specs.Filling.{Formula, Measures, FormulaRoom, FormulaFills, ProgramRoom, ProgramFills, ends, NodesWritten}
 use Rattle.routine.proofs.WriteLaws.{spread-one, spread-on, spread-back, words-four, cells-four}
 use Rattle.routine.proofs.SizeLaws.{tests-length, atom-sets-length, nodes-length, program-sets-length}
 
@@ -85,15 +85,6 @@ module _ (bytes : List ℕ) (n at : ℕ) where
   -- The parts of a program that stands, by what `program_node` answers.
   pub program-parts : {h : Read ProgramHead} → length bytes ≤ 1024 → h ≡ ofSheet programHead bytes at → (x : Program) (q : ℕ) → ProgramAt bytes n x at q → Parts h x q
   program-parts short e x q s = subst (λ r. Parts r x q) (sheet-short programHead bytes at short refl ∙ sym e) (parts-found x q s)
-
--- Where a program ends: in the sheet, among the nodes and among the sets.
-abbrev ends : (base k : ℕ) (x : Program) (q : ℕ) → Filled
-ends base k x q = record { at = q; node = base + size x; set = k + programAtoms x }
-
--- The nodes and the sets of a program are written from node `base` and from set k on, and r is where it ends.
-abbrev NodesWritten : (base k : ℕ) (x : Program) (q : ℕ) (nodes nodes′ sets sets′ : List ℕ) → Filled → Type 0
-NodesWritten base k x q nodes nodes′ sets sets′ r =
-    (r ≡ ends base k x q) × (nodes′ ≡ write nodes (4 * base) (flatMap cells (programNodes x k))) × (sets′ ≡ write sets (4 * k) (flatMap words (programSets x)))
 
 -- The end has none.
 pub laid-end : (base k : ℕ) {x : Program} (p q : ℕ) (nodes sets : List ℕ) → (x ≡ end) × (p ≡ q) → NodesWritten base k x q nodes nodes sets sets (record { at = p; node = base; set = k })
@@ -276,7 +267,6 @@ module _ (bytes : List ℕ) (n at base k : ℕ) where
             next = h .parts .then-at;
             read = h .parts .condition-read;
             levels = omega arith;
-            nodes-room = omega (arith, room .nodes-room, h .many);
             sets-room = omega (arith, room .sets-room, h .sets-many);
             met-inside = omega (arith, room .nodes-room, h .many);
             unmet-inside = omega (arith, room .nodes-room, h .many, s);

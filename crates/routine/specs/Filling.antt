@@ -17,6 +17,29 @@ use Rattle.routine.specs.declared.program.Filled.{Filled}
 use Rattle.routine.specs.Memory.{write, words, cells, headMost, nodeMost, setMost}
 use Rattle.routine.specs.Tables.{rows, actionSets, headCells, atoms, atomSets, tests, size, programAtoms, programSets, programNodes}
 
+-- The head of an action is written as that of action a and its sets from set k on, and r is where they end.
+abbrev pub ActionWritten : (space : States) (a k : ℕ) (heads heads′ sets sets′ : List ℕ) (r : Laid) (x : Action) (q : ℕ) → Type 0
+ActionWritten space a k heads heads′ sets sets′ r x q =
+    (r ≡ record { at = q; set = k + length (actionSets (member space) x) })
+    × (heads′ ≡ write heads (3 * a) (headCells (member space) k (x ∷ [])))
+    × (sets′ ≡ write sets (4 * k) (flatMap words (actionSets (member space) x)))
+
+-- The tests and the sets of a formula are written from node `base` and from set k on, and r is its extent.
+abbrev pub TestsWritten : (base k met unmet : ℕ) (f : Epistemic) (q : ℕ) (nodes nodes′ sets sets′ : List ℕ) → Extent → Type 0
+TestsWritten base k met unmet f q nodes nodes′ sets sets′ r =
+    (r ≡ record { atoms = atoms f; at = q })
+    × (nodes′ ≡ write nodes (4 * base) (flatMap cells (tests f k met unmet)))
+    × (sets′ ≡ write sets (4 * k) (flatMap words (atomSets f)))
+
+-- Where a program ends: in the sheet, among the nodes and among the sets.
+abbrev pub ends : (base k : ℕ) (x : Program) (q : ℕ) → Filled
+ends base k x q = record { at = q; node = base + size x; set = k + programAtoms x }
+
+-- The nodes and the sets of a program are written from node `base` and from set k on, and r is where it ends.
+abbrev pub NodesWritten : (base k : ℕ) (x : Program) (q : ℕ) (nodes nodes′ sets sets′ : List ℕ) → Filled → Type 0
+NodesWritten base k x q nodes nodes′ sets sets′ r =
+    (r ≡ ends base k x q) × (nodes′ ≡ write nodes (4 * base) (flatMap cells (programNodes x k))) × (sets′ ≡ write sets (4 * k) (flatMap words (programSets x)))
+
 module _ (bytes : List ℕ) (n : ℕ) where
   -- A position is where the theory at another ends.
   abbrev pub TheoryEnds : (at r : ℕ) → Type 0
@@ -54,11 +77,7 @@ module _ (bytes : List ℕ) (n : ℕ) where
 
     -- Its head and its sets are written.
     abbrev pub ActionFills : (at a k : ℕ) (heads heads′ sets sets′ : List ℕ) (r : Laid) → Type 0
-    ActionFills at a k heads heads′ sets sets′ r =
-        (x : Action) (q : ℕ) → ActionAt bytes n x at q
-        → (r ≡ record { at = q; set = k + length (actionSets (member space) x) })
-        × (heads′ ≡ write heads (3 * a) (headCells (member space) k (x ∷ [])))
-        × (sets′ ≡ write sets (4 * k) (flatMap words (actionSets (member space) x)))
+    ActionFills at a k heads heads′ sets sets′ r = (x : Action) (q : ℕ) → ActionAt bytes n x at q → ActionWritten space a k heads heads′ sets sets′ r x q
 
     -- So many actions stand behind the header, at most 31, and their sets have room.
     pub record ActionsRoom (count : ℕ) : Type 0 where
@@ -106,7 +125,6 @@ module _ (bytes : List ℕ) (n : ℕ) where
     pub next : ℕ
     pub read : epistemic n left bytes at ≡ got formula next
     pub levels : left ≤ deepest
-    pub nodes-room : base + atoms formula ≤ nodeMost
     pub sets-room : k + atoms formula ≤ setMost
     pub met-inside : base + atoms formula + met ≤ nodeMost
     pub unmet-inside : base + atoms formula + unmet ≤ nodeMost
@@ -114,10 +132,7 @@ module _ (bytes : List ℕ) (n : ℕ) where
   -- Its tests and its sets are written, and r is its extent.
   abbrev pub FormulaFills : (left at base k met unmet : ℕ) (nodes nodes′ sets sets′ : List ℕ) → Extent → Type 0
   FormulaFills left at base k met unmet nodes nodes′ sets sets′ r =
-      (f : Epistemic) (q : ℕ) → epistemic n left bytes at ≡ got f q
-      → (r ≡ record { atoms = atoms f; at = q })
-      × (nodes′ ≡ write nodes (4 * base) (flatMap cells (tests f k met unmet)))
-      × (sets′ ≡ write sets (4 * k) (flatMap words (atomSets f)))
+      (f : Epistemic) (q : ℕ) → epistemic n left bytes at ≡ got f q → TestsWritten base k met unmet f q nodes nodes′ sets sets′ r
 
   -- A program stands at a position, and its nodes and its sets have room.
   pub record ProgramRoom (at base k : ℕ) : Type 0 where
@@ -129,11 +144,7 @@ module _ (bytes : List ℕ) (n : ℕ) where
 
   -- Its nodes and its sets are written, and r is where they end.
   abbrev pub ProgramFills : (at base k : ℕ) (nodes nodes′ sets sets′ : List ℕ) → Filled → Type 0
-  ProgramFills at base k nodes nodes′ sets sets′ r =
-      (p : Program) (q : ℕ) → ProgramAt bytes n p at q
-      → (r ≡ record { at = q; node = base + size p; set = k + programAtoms p })
-      × (nodes′ ≡ write nodes (4 * base) (flatMap cells (programNodes p k)))
-      × (sets′ ≡ write sets (4 * k) (flatMap words (programSets p)))
+  ProgramFills at base k nodes nodes′ sets sets′ r = (x : Program) (q : ℕ) → ProgramAt bytes n x at q → NodesWritten base k x q nodes nodes′ sets sets′ r
 
 -- A sheet is accepted.
 pub record Acceptable (bytes : List ℕ) : Type 0 where
