@@ -11,7 +11,8 @@ use Rattle.routine.specs.Memory.{write, words, setAt}
 use Rattle.routine.specs.Tables.{startOf, prepared}
 use Rattle.progression.specs.declared.place.Place.{Place}
 use Rattle.progression.specs.Machine.{stepped, settled}
-use Rattle.exports.specs.Numbers.{numberFor, startWords}
+use Rattle.semantics.specs.Verdict.{Verdict}
+use Rattle.exports.specs.Numbers.{numberFor, startWords, verdictNumbers, verdictMemory}
 
 -- An answer has the same number without its sheet.
 pub number-without : {A : Type 0} (a : Answer A) → numberFor (withoutSheet a) ≡ numberFor a
@@ -42,3 +43,12 @@ step-written heads sets memory after action reply before result b r w =
 pub place-settled : (nodes sets memory : List ℕ) (at : ℕ) (set : States) (place told : Place) → set ≡ setAt memory 0 → told ≡ settled nodes sets set at → told ≡ place
     → place ≡ settled nodes sets (setAt memory 0) at
 place-settled nodes sets memory at set place told s e t = sym t ∙ e ∙ ap (λ (u : States). settled nodes sets u at) s
+
+-- A verdict's numbers are written; a refusal leaves their memory as it was.
+pub verdict-numbers : (a : Answer Verdict) (v : Verdict) → accepted v ≡ a → (old after : List ℕ) → after ≡ write old 0 (verdictNumbers v) → (0 ≡ numberFor a) × (after ≡ verdictMemory a old)
+unfolding numberFor verdictMemory
+verdict-numbers a v e old after w = (ap numberFor e, w ∙ ap (λ (b : Answer Verdict). verdictMemory b old) e)
+
+pub verdict-refused : (a : Answer Verdict) (k : ℕ) → refused k ≡ a → (old : List ℕ) → (k ≡ numberFor a) × (old ≡ verdictMemory a old)
+unfolding numberFor verdictMemory
+verdict-refused a k e old = (ap numberFor e, ap (λ (b : Answer Verdict). verdictMemory b old) e)

@@ -1,10 +1,11 @@
 -- Answers as numbers, for callers in other languages.
 use Prim.Native.Nat.{ℕ, _+_, _*_}
-use mathlib.Core.List.{List}
-use mathlib.Core.Bool.{true, false}
+use mathlib.Core.List.{List, [], _∷_}
+use mathlib.Core.Bool.{Bool, true, false}
 use Rattle.reader.specs.Syntax.{Sheet}
 use Rattle.reader.specs.Format.{Answer, accepted, refused}
-use Rattle.routine.specs.Memory.{words}
+use Rattle.semantics.specs.Verdict.{Verdict, valid, invalid, stopped}
+use Rattle.routine.specs.Memory.{write, words}
 use Rattle.routine.specs.Tables.{sheetStart}
 use Rattle.progression.specs.declared.place.Place.{Place}
 
@@ -23,3 +24,21 @@ unfoldable pub placeNumber : Place → ℕ
 placeNumber (Place.End false) = 0
 placeNumber (Place.End true) = 1
 placeNumber (Place.Act node action) = 2 + 65536 * node + action
+
+-- A verdict as three numbers.
+unfoldable pub verdictNumbers : Verdict → List ℕ
+verdictNumbers (valid c) = 0 ∷ c ∷ 0 ∷ []
+verdictNumbers (invalid c l) = 1 ∷ c ∷ l ∷ []
+verdictNumbers (stopped b) = 2 ∷ b ∷ 0 ∷ []
+
+-- The memory of a verdict after a call; a refusal leaves it as it was.
+unfoldable pub verdictMemory : Answer Verdict → (old : List ℕ) → List ℕ
+unfolding verdictNumbers write
+verdictMemory (accepted v) old = write old 0 (verdictNumbers v)
+verdictMemory (refused r) old = old
+
+-- The checker's answer: 0 for yes, 255 for no, else the number of the refusal.
+unfoldable pub checkedNumber : Answer Bool → ℕ
+checkedNumber (accepted true) = 0
+checkedNumber (accepted false) = 255
+checkedNumber (refused r) = r

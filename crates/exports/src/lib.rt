@@ -1,5 +1,9 @@
 // What C and Rust programs link: the library's functions under C's calling convention. A slice is a pointer and a length,
 // an array of fixed length is a pointer to its first element.
+use checker::Checked;
+use checker::check;
+use printing::LINES;
+use printing::print;
 use progression::Place;
 use progression::settle;
 use progression::step;
@@ -10,12 +14,19 @@ use routine::Prepared;
 use routine::SET_WORDS;
 use routine::prepare;
 use states::States;
+use verifier::Verdict;
+use verifier::verify;
 ghost use mathlib.Core.Path.{_≡_};
+ghost use mathlib.Core.List.{[], _∷_};
+ghost use lib.ListN.{length};
 ghost use Rattle.reader.specs.Format.{reading};
+ghost use Rattle.semantics.specs.Verdict.{verified};
+ghost use Rattle.semantics.specs.Checker.{checked};
+ghost use Rattle.semantics.specs.Printing.{printed};
 ghost use Rattle.routine.specs.Memory.{write, words, setAt};
 ghost use Rattle.routine.specs.Tables.{prepared as preparedBy, sheetHeads, nodeCells, setWords};
 ghost use Rattle.progression.specs.Machine.{stepped, settled};
-ghost use Rattle.exports.specs.Numbers.{numberFor, startWords, placeNumber};
+ghost use Rattle.exports.specs.Numbers.{numberFor, startWords, placeNumber, verdictMemory, checkedNumber};
 
 // The words of a set of states.
 const WORDS: usize = 4;
@@ -105,4 +116,64 @@ pub extern "C" fn recovery_settle(
         Place::End(holds) => { if holds { 1 } else { 0 } }
         Place::Act(node, action) => 2 + 65536 * (node as u64) + (action as u64),
     }
+}
+
+// Writes the three numbers of a verdict.
+fn put_verdict(verdict: &mut [u64; 3], kind: u64, count: u64, length: u64)
+    ensures { λ r. ⌜ now (verdict .exit) ≡ write (now (verdict .entry)) 0 (kind ∷ count ∷ length ∷ []) ⌝ }
+{
+    verdict[0] = kind;
+    verdict[1] = count;
+    verdict[2] = length;
+}
+
+// Verifies a sheet with a budget and gives 0; the trace memory then begins with the least failing trace if the verdict is
+// invalid. The verdict is written as three numbers: 0 and the count for "valid", 1, the count and the length for
+// "invalid", 2 and the budget for "stopped". A refusal gives its number, 30 if the trace memory has under 129 bytes, and
+// every memory is left as it was.
+#[no_mangle]
+pub extern "C" fn recovery_verify(
+    s: &[u8],
+    budget: u32,
+    trace: &mut [u8],
+    verdict: &mut [u64; 3],
+) -> u8
+    ensures { λ r. ⌜ (r ≡ numberFor (verified (now (s .entry)) budget (now (trace .entry)) .answer)) × (now (trace .exit) ≡ verified (now (s .entry)) budget (now (trace .entry)) .memory) × (now (verdict .exit) ≡ verdictMemory (verified (now (s .entry)) budget (now (trace .entry)) .answer) (now (verdict .entry))) ⌝ }
+{
+    match verify(s, budget, trace) {
+        Verdict::Valid(c) => {
+            put_verdict(verdict, 0, c as u64, 0);
+            0
+        }
+        Verdict::Invalid(c, l) => {
+            put_verdict(verdict, 1, c as u64, l as u64);
+            0
+        }
+        Verdict::Stopped(b) => {
+            put_verdict(verdict, 2, b as u64, 0);
+            0
+        }
+        Verdict::ShortMemory => 30,
+        Verdict::Refused(r) => reader::number(r),
+    }
+}
+
+// Whether a trace is one of a full run that fails the goal: 0 for yes, 255 for no, else the number of the sheet's refusal.
+#[no_mangle]
+pub extern "C" fn recovery_check(s: &[u8], trace: &[u8]) -> u8
+    ensures { λ r. ⌜ r ≡ checkedNumber (checked (now (s .entry)) (now (trace .entry))) ⌝ }
+{
+    match check(s, trace) {
+        Checked::Yes => 0,
+        Checked::No => 255,
+        Checked::Refused(r) => reader::number(r),
+    }
+}
+
+// Writes what planverify prints for a sheet from the first byte on, and gives its length.
+#[no_mangle]
+pub extern "C" fn recovery_print(s: &[u8], out: &mut [u8; LINES]) -> usize
+    ensures { λ r. ⌜ (r ≡ length (printed (now (s .entry)))) × (now (out .exit) ≡ write (now (out .entry)) 0 (printed (now (s .entry)))) ⌝ }
+{
+    print(s, out)
 }

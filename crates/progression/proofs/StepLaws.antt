@@ -13,12 +13,12 @@ use Rattle.lists.specs.Lists.{if_then_else_, below, exists, keep}
 use Rattle.lists.proofs.ListLaws.{two-cases, same-test, both-true, and-both, exists-mem, mem-exists, upFrom-mem, mem-upFrom, keep-within, made-length, made-get}
 use Rattle.states.specs.declared.States.{States}
 use Rattle.states.specs.Sets.{member, setOf, members}
-use Rattle.states.proofs.SetLaws.{member-setOf, set-cong, members-setOf}
+use Rattle.states.proofs.SetLaws.{member-setOf, member-above, set-cong, members-setOf}
 use Rattle.reader.specs.Syntax.{Action, change, probe, replyCount, Sheet, actionOf}
 use Rattle.reader.specs.Truth.{isState, states, truth, moves, answers, allowed}
 use Rattle.reader.proofs.StateLaws.{state-below, state-listed, answer-exists}
 use Rattle.reader.proofs.StageLaws.{space-states}
-use Rattle.semantics.specs.Runs.{entry, History, step}
+use Rattle.semantics.specs.Runs.{Entry, entry, History, step}
 use Rattle.semantics.specs.Progression.{possible, startSet, nextSet, setAfter}
 use Rattle.semantics.proofs.ProgressionLaws.{possible-keep, set-states}
 use Rattle.routine.specs.declared.memory.Head.{Head}
@@ -29,7 +29,7 @@ use Rattle.progression.specs.Machine.{gathered, effect, stepped}
 use Rattle.progression.proofs.GatherLaws.{effect-rows, effect-none}
 
 -- The states of a sheet are bytes.
-state-byte : (sheet : Sheet) → sheet .facts ≤ 8 → (s : ℕ) → isState sheet s ≡ true → s < 256
+pub state-byte : (sheet : Sheet) → sheet .facts ≤ 8 → (s : ℕ) → isState sheet s ≡ true → s < 256
 state-byte sheet few s t =
     let h : 2 ^ sheet .facts ≤ 2 ^ 8 = pow-mono few in
     omega (arith, h, state-below sheet s t)
@@ -141,6 +141,38 @@ tabled-step sheet few heads nodes sets tabled from inside a l r =
     ap (λ (x : Head). if ltb r (x .count) then setOf (λ t. member (effect sets x (setOf from)) t && member (setAt sets (x .replies + r)) t) else setOf (λ t. false)) (tabled .head-is a l)
     ∙ step-answered sheet few sets (firstSet (isState sheet) (sheet .actions) a) from inside (actionOf sheet a) (row-is sheet heads nodes sets tabled a l)
     (reply-is sheet heads nodes sets tabled a l) r
+
+module _ (sheet : Sheet) (few : sheet .facts ≤ 8) where
+  -- A test that only states pass, as a set: whether any number is in it.
+  pub member-states : (test : ℕ → Bool) → ((s : ℕ) → test s ≡ true → isState sheet s ≡ true) → (s : ℕ) → member (setOf test) s ≡ test s
+  member-states test inside s = go (ltb s 256) refl
+    where
+      go : (b : Bool) → ltb s 256 ≡ b → member (setOf test) s ≡ test s
+      go true e = member-setOf test s (ltb-true s 256 e)
+      go false e =
+          let above = ltb-false s 256 e in
+          member-above (setOf test) s above ∙ sym (⊎-elim (λ (k : test s ≡ true). absurd (omega (arith, above, state-byte sheet few s (inside s k)))) (λ k. k) (two-cases (test s)))
+
+  -- A step on the tables from the set of one state leads to the states to which the action and its reply lead from it.
+  module _ (heads nodes sets : List ℕ) (tabled : Tabled sheet heads nodes sets) (s : ℕ) (i : isState sheet s ≡ true) (a : ℕ) (l : a < length (sheet .actions)) (r : ℕ) where
+    abbrev replied : Entry
+    replied = entry a r
+
+    pub single-set : stepped heads sets (setOf (λ u. eqb u s)) a r ≡ setOf (λ t. isState sheet t && step sheet replied s t)
+    unfolding nextSet
+    single-set =
+        tabled-step sheet few heads nodes sets tabled (λ u. eqb u s) (λ u k. ap (isState sheet) (eqb-true u s k) ∙ i) a l r
+        ∙ set-cong (λ t. isState sheet t && exists (λ u. eqb u s && step sheet replied u t) (states sheet)) (λ t. isState sheet t && step sheet replied s t)
+        (λ t m. ap (λ (b : Bool). isState sheet t && b) (same-test (exists (λ u. eqb u s && step sheet replied u t) (states sheet)) (step sheet replied s t)
+        (λ h.
+        let w = exists-mem (λ u. eqb u s && step sheet replied u t) (states sheet) h in
+        let b = both-true (eqb (w .0) s) (step sheet replied (w .0) t) (w .2) in
+        ap (λ (u : ℕ). step sheet replied u t) (sym (eqb-true (w .0) s (b .0))) ∙ b .1)
+        (λ h. mem-exists (λ u. eqb u s && step sheet replied u t) (states sheet) (state-listed sheet s i) (and-both (eqb s s) (step sheet replied s t) (eq-eqb s s refl) h))))
+
+    pub single-step : (t : ℕ) → member (stepped heads sets (setOf (λ u. eqb u s)) a r) t ≡ isState sheet t && step sheet replied s t
+    single-step t =
+        ap (λ (u : States). member u t) single-set ∙ member-states (λ u. isState sheet u && step sheet replied s u) (λ u k. both-true (isState sheet u) (step sheet replied s u) k .0) t
 
 -- The members of the set of possible states are the states possible after the history.
 pub members-possible : (sheet : Sheet) → sheet .facts ≤ 8 → (h : History) → members (setOf (setAfter sheet (startSet sheet) h)) ≡ possible sheet h

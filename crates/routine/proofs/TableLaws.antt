@@ -13,12 +13,15 @@ use Rattle.states.specs.declared.States.{States}
 use Rattle.states.specs.Sets.{setOf}
 use Rattle.reader.specs.Syntax.{Action, probe, replyCount, Sheet, actionOf}
 use Rattle.reader.specs.Truth.{isState, answers}
-use Rattle.reader.specs.Format.{accepted, reading}
+use Rattle.reader.specs.Format.{Answer, accepted, refused, reading}
+use Rattle.reader.specs.Answers.{numberOf}
+use Rattle.reader.specs.declared.refusal.Refusal.{Refusal}
 use Rattle.reader.proofs.SheetLaws.{accepted-shape}
 use Rattle.routine.specs.declared.memory.Node.{Node}
 use Rattle.routine.specs.declared.memory.Head.{Head}
+use Rattle.routine.specs.declared.sheet.Prepared.{Prepared}
 use Rattle.routine.specs.Memory.{write, words, cells, setAt, nodeOf, nodeAt, headAt}
-use Rattle.routine.specs.Tables.{rows, replyTables, actionSets, atomSets, programSets, headCells, sheetActionSets, sheetSets, sheetNodes, sheetHeads, setWords, nodeCells, prepared}
+use Rattle.routine.specs.Tables.{rows, replyTables, actionSets, atomSets, programSets, headCells, sheetActionSets, sheetSets, sheetNodes, sheetHeads, setWords, nodeCells, sheetStart, preparedOf, startOf, prepared}
 use Rattle.routine.proofs.WriteLaws.{spread-length, words-four, cells-four}
 use Rattle.routine.proofs.RoomLaws.{action-length, heads-length, sheet-sets-length, sheet-nodes-length, accepted-room}
 
@@ -28,7 +31,7 @@ unfolding write
 write-past xs i [] j l = refl
 write-past xs i (y ∷ ys) j l = write-past (set xs i y) (i + 1) ys j (omega arith) ∙ getD-set-other xs i j y 0 (λ e. omega (arith, e))
 
-write-back : (xs : List ℕ) (i : ℕ) (ys : List ℕ) → i + length ys ≤ length xs → (j : ℕ) → j < length ys → getD (write xs i ys) (i + j) 0 ≡ getD ys j 0
+pub write-back : (xs : List ℕ) (i : ℕ) (ys : List ℕ) → i + length ys ≤ length xs → (j : ℕ) → j < length ys → getD (write xs i ys) (i + j) 0 ≡ getD ys j 0
 unfolding write
 write-back xs i [] h j l = absurd (omega arith)
 write-back xs i (y ∷ ys) h zero l =
@@ -182,6 +185,17 @@ prepared-tabled bytes sheet e heads nodes sets h n s =
       node-is = λ i l. node-back nodes (sheetNodes sheet) n (omega (arith, sheet-nodes-length sheet, room .nodes-room)) i l;
       set-is = λ k l. set-back sets (sheetSets sheet) s (omega (arith, sheet-sets-length sheet, room .sets-room)) k l;
     })
+
+-- The sheet behind an answer of `prepare`: a start set is that of the accepted sheet, a refusal that of the sheet.
+pub ready-sheet : (a : Answer Sheet) (start : States) → preparedOf (Prepared.Ready start) ≡ startOf a → (sheet : Sheet) × (a ≡ accepted sheet) × (start ≡ sheetStart sheet)
+unfolding preparedOf startOf
+ready-sheet (accepted sheet) start e = (sheet, refl, cc)
+ready-sheet (refused r) start e = let z : _≡_ {A = ℕ} 0 1 = cc in absurd (omega arith)
+
+pub refused-sheet : (a : Answer Sheet) (r : Refusal) → preparedOf (Prepared.Refused r) ≡ startOf a → a ≡ refused (numberOf r)
+unfolding preparedOf startOf
+refused-sheet (accepted sheet) r e = let z : _≡_ {A = ℕ} 0 1 = cc in absurd (omega arith)
+refused-sheet (refused k) r e = cc
 
 -- The sets of an action of the sheet.
 module _ (sheet : Sheet) (heads nodes sets : List ℕ) (tabled : Tabled sheet heads nodes sets) (a : ℕ) (l : a < length (sheet .actions)) where

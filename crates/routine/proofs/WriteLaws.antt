@@ -3,12 +3,18 @@ use Prim.Native.Nat.{ℕ, suc, _+_, _*_, _<_, _≤_}
 use mathlib.Core.Path.{_≡_, refl, ap, sym, _∙_}
 use mathlib.Core.List.{List, [], _∷_, _++_, flatMap, append-assoc, append-nil}
 use native.Mathlib.Omega.{arith}
-use lib.ListN.{length, set, length-append}
+use lib.ListN.{length, set, length-set, length-append}
 use lib.Seq.{set-comm}
 use mathlib.Core.Bool.{true, false}
 use Rattle.states.specs.declared.States.{States}
 use Rattle.routine.specs.declared.memory.Node.{Node}
 use Rattle.routine.specs.Memory.{write, words, cells}
+
+-- Writing keeps the length.
+pub write-length : (xs : List ℕ) (i : ℕ) (ys : List ℕ) → length (write xs i ys) ≡ length xs
+unfolding write
+write-length xs i [] = refl
+write-length xs i (y ∷ ys) = write-length (set xs i y) (i + 1) ys ∙ length-set xs i y
 
 write-append : (xs : List ℕ) (i : ℕ) (ys zs : List ℕ) → write xs i (ys ++ zs) ≡ write (write xs i ys) (i + length ys) zs
 unfolding write

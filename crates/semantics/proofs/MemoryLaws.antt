@@ -16,7 +16,7 @@ use Rattle.semantics.specs.Routine.{Failing, Full, Following}
 use Rattle.semantics.specs.Verdict.{Verdict, historyCount, trace, valid, invalid, stopped, outcome, written, Verified, judged, verified}
 use Rattle.semantics.specs.Printing.{printedFor, printed}
 use Rattle.semantics.proofs.VerdictLaws.{Shown, invalid-means, none-shown}
-use Rattle.semantics.proofs.AcceptedLaws.{starts, trace-length, trace-most}
+use Rattle.semantics.proofs.AcceptedLaws.{starts, actions-most, trace-length, trace-most}
 
 -- The answer and the memory for an accepted sheet, where the memory is long enough.
 module _ (bytes : List ℕ) (sheet : Sheet) (read : reading bytes ≡ accepted sheet) (budget : ℕ) (old : List ℕ) (enough : 129 ≤ length old) where
@@ -24,7 +24,7 @@ module _ (bytes : List ℕ) (sheet : Sheet) (read : reading bytes ≡ accepted s
   unfolding verified judged if_then_else_
   verified-accepted = rw (le-ltb (length old) 129 enough, read)
 
-verified-refused : (bytes : List ℕ) (r : ℕ) → reading bytes ≡ refused r → (budget : ℕ) (old : List ℕ) → 129 ≤ length old → verified bytes budget old ≡ record { answer = refused r; memory = old }
+pub verified-refused : (bytes : List ℕ) (r : ℕ) → reading bytes ≡ refused r → (budget : ℕ) (old : List ℕ) → 129 ≤ length old → verified bytes budget old ≡ record { answer = refused r; memory = old }
 unfolding verified judged if_then_else_
 verified-refused bytes r e budget old enough = rw (le-ltb (length old) 129 enough, e)
 
@@ -89,6 +89,20 @@ memory-kept bytes budget old = go (ltb (length old) 129) refl (reading bytes) re
     go true t r e = inl (refl, λ c l k. no-verdict 30 (invalid c l) k)
     go false t (refused r) e = inl (refl, λ c l k. no-verdict r (invalid c l) k)
     go false t (accepted sheet) e = accepted-kept bytes sheet e budget old (ltb-false (length old) 129 t)
+
+-- The memory keeps its length, and the history of an "invalid" answer has at most 64 actions.
+pub memory-length : (bytes : List ℕ) (budget : ℕ) (old : List ℕ) → length (verified bytes budget old .memory) ≡ length old
+memory-length bytes budget old = ⊎-elim (λ k. ap length (k .0)) (λ k. k .8) (memory-kept bytes budget old)
+
+pub invalid-short : (bytes : List ℕ) (budget : ℕ) (old : List ℕ) (c l : ℕ) → verified bytes budget old .answer ≡ accepted (invalid c l) → l ≤ 64
+unfolding Failing Full Following
+invalid-short bytes budget old c l e =
+    ⊎-elim (λ k. absurd (k .1 c l e))
+    (λ k.
+    let same : l ≡ k .1 = let d = sym e ∙ k .4 in cc in
+    let shown = k .5 in
+    omega (arith, same, shown .3, actions-most bytes (k .0) (k .3) (shown .0) (shown .2 .0 .0 .1)))
+    (memory-kept bytes budget old)
 
 -- What is printed doesn't depend on what the memory held before.
 verdict-prints : (v : Verdict) (m n : List ℕ) → ((c l : ℕ) → v ≡ invalid c l → take (1 + 2 * l) m ≡ take (1 + 2 * l) n) → printedFor (accepted v) m ≡ printedFor (accepted v) n

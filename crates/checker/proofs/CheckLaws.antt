@@ -1,0 +1,37 @@
+-- The checker's answer by what `prepare` answers. Assumes nothing.
+use Prim.Native.Nat.{ℕ}
+use mathlib.Core.Path.{_≡_, refl, sym, ap, _∙_}
+use mathlib.Core.List.{List}
+use mathlib.Core.Bool.{Bool, _&&_}
+use native.Mathlib.Omega.{arith}
+use lib.ListN.{length}
+use Rattle.states.specs.declared.States.{States}
+use Rattle.reader.specs.Syntax.{Sheet}
+use Rattle.reader.specs.Format.{Answer, accepted, refused, reading}
+use Rattle.reader.specs.declared.refusal.Refusal.{Refusal}
+use Rattle.reader.specs.Answers.{numberOf}
+use Rattle.semantics.specs.Checker.{isTraceLength, checkedFor, checked}
+use Rattle.semantics.proofs.CheckerLaws.{checked-accepted}
+use Rattle.routine.specs.declared.sheet.Prepared.{Prepared}
+use Rattle.routine.specs.Tables.{sheetStart, preparedOf, startOf, prepared, sheetHeads, nodeCells, setWords}
+use Rattle.routine.proofs.TableLaws.{Tabled, prepared-tabled, ready-sheet, refused-sheet}
+use Rattle.checker.specs.Shown.{showsBy}
+use Rattle.checker.proofs.ShownLaws.{shown-failing}
+
+module _ (bytes shown : List ℕ) where
+  pub refused-checked : (r : Refusal) → preparedOf (Prepared.Refused r) ≡ startOf (reading bytes) → refused (numberOf r) ≡ checked bytes shown
+  unfolding checked checkedFor
+  refused-checked r e = sym (ap (checkedFor shown) (refused-sheet (reading bytes) r e))
+
+  -- What the trace shows by the tables that were prepared is the answer.
+  pub ready-checked : (start : States) → preparedOf (Prepared.Ready start) ≡ startOf (reading bytes)
+      → (heads nodes sets : List ℕ) → length heads ≡ 93 → length nodes ≡ 8192 → length sets ≡ 40960
+      → (heads′ nodes′ sets′ : List ℕ) → heads′ ≡ prepared sheetHeads (reading bytes) heads → nodes′ ≡ prepared nodeCells (reading bytes) nodes → sets′ ≡ prepared setWords (reading bytes) sets
+      → (r : Bool) → r ≡ isTraceLength (length shown) && showsBy heads′ nodes′ sets′ start shown
+      → accepted r ≡ checked bytes shown
+  ready-checked start e heads nodes sets h n s heads′ nodes′ sets′ h′ n′ s′ r y =
+      let q = ready-sheet (reading bytes) start e in
+      let sheet = q .0 in
+      let tabled : Tabled sheet heads′ nodes′ sets′ = rw (h′, n′, s′) (prepared-tabled bytes sheet (q .1) heads nodes sets h n s) in
+      ap accepted (y ∙ ap (λ (u : States). isTraceLength (length shown) && showsBy heads′ nodes′ sets′ u shown) (q .2) ∙ shown-failing bytes sheet (q .1) heads′ nodes′ sets′ tabled shown)
+      ∙ sym (checked-accepted bytes sheet (q .1) shown)

@@ -1,0 +1,163 @@
+-- Laws of the printed lines: digits, decimals and bytes in hexadecimal, and parts put one behind the other. Assumes nothing.
+use Prim.Native.Nat.{ℕ, zero, suc, _+_, _*_, _/_, _%_, _^_, _≤_, _<_}
+use mathlib.Core.Path.{_≡_, refl, ap, ap₂, sym, subst, _∙_}
+use mathlib.Core.List.{List, [], _∷_, _++_}
+use mathlib.Core.Bool.{Bool, true, false}
+use native.Mathlib.Omega.{arith}
+use native.Mathlib.Nat.{pow-suc}
+use lib.Dec.{ltb}
+use borrow.Author.Tests.{ltb-true, ltb-false, lt-ltb, le-ltb}
+use lib.ListN.{length, getD, take, drop, set, length-append, drop-of-length-le}
+use lib.Seq.{take-suc, drop-cons, length-take-le}
+use Rattle.lists.specs.Lists.{if_then_else_}
+use Rattle.reader.specs.declared.refusal.Refusal.{Refusal}
+use Rattle.reader.specs.Format.{accepted}
+use Rattle.reader.specs.Answers.{numberOf}
+use Rattle.semantics.specs.Verdict.{invalid}
+use Rattle.semantics.specs.Printing.{space, lineFeed, digit, decimal, hexadecimal, invalidWord, refusedWord, endLine, printedFor}
+use Rattle.semantics.proofs.PrintingLaws.{decimal-small, decimal-more}
+use Rattle.routine.specs.Memory.{write}
+use Rattle.routine.proofs.WriteLaws.{written-on}
+use Rattle.verifier.specs.declared.verdict.Verdict.{Verdict}
+use Rattle.verifier.specs.Answers.{answerOf}
+use Rattle.printing.specs.Lines.{Put, behindWord, Printable}
+
+-- The digit of a number, below 10 and from 10 on.
+pub digit-low : (d : ℕ) → d < 10 → 48 + d ≡ digit d
+unfolding digit if_then_else_
+digit-low d h = rw (lt-ltb d 10 h)
+
+pub digit-high : (d : ℕ) → 10 ≤ d → 87 + d ≡ digit d
+unfolding digit if_then_else_
+digit-high d h = rw (le-ltb d 10 h)
+
+-- One byte is put, and two parts one behind the other.
+pub put-one : (m : List ℕ) (at b : ℕ) → Put m (set m at b) at (at + 1) (b ∷ [])
+unfolding write
+put-one m at b = record { place = refl; written = refl }
+
+module _ {m u v : List ℕ} {i j k : ℕ} {xs ys : List ℕ} where
+  pub put-on : Put m u i j xs → Put u v j k ys → Put m v i k (xs ++ ys)
+  put-on p q = record {
+    place = omega (arith, p .place, q .place, length-append xs ys);
+    written = written-on m u v i j xs ys (p .written) (q .written) (sym (p .place));
+  }
+
+-- The length of a number's decimal: one digit, one more, and at most so many.
+pub small-length : (n : ℕ) → n < 10 → length (decimal n) ≡ 1
+small-length n h = ap length (decimal-small n h)
+
+pub more-length : (n : ℕ) → 10 ≤ n → length (decimal n) ≡ length (decimal (n / 10)) + 1
+more-length n h = ap length (decimal-more n h) ∙ length-append (decimal (n / 10)) (digit (n % 10) ∷ [])
+
+decimal-length : (k n : ℕ) → n < 10 ^ suc k → length (decimal n) ≤ suc k
+decimal-length zero n h = omega (arith, small-length n h)
+decimal-length (suc k) n h =
+    let p : 10 ^ suc (suc k) ≡ 10 ^ suc k * 10 = pow-suc 10 (suc k) in go (ltb n 10) refl (decimal-length k (n / 10) (omega arith))
+  where
+    go : (b : Bool) → ltb n 10 ≡ b → length (decimal (n / 10)) ≤ suc k → length (decimal n) ≤ suc (suc k)
+    go true t below = omega (arith, small-length n (ltb-true n 10 t))
+    go false t below = omega (arith, more-length n (ltb-false n 10 t))
+
+pub decimal-most : (n : ℕ) → n < 4294967296 → length (decimal n) ≤ 10
+decimal-most n h = decimal-length 9 n (omega arith)
+
+-- A number's decimal is put: its one digit, or its last digit behind the others.
+pub put-small : (m : List ℕ) (at n d : ℕ) → n < 10 → d ≡ digit n → Put m (set m at d) at (at + 1) (decimal n)
+put-small m at n d h e = rw (decimal-small n h, sym e) (put-one m at d)
+
+pub put-more : (m u : List ℕ) (at last n d : ℕ) → 10 ≤ n → Put m u at last (decimal (n / 10)) → d ≡ digit (n % 10) → Put m (set u last d) at (last + 1) (decimal n)
+put-more m u at last n d h p e = rw (decimal-more n h, sym e) (put-on p (put-one u last d))
+
+-- A word is put byte by byte: where one is written, the others are left to be written behind it.
+module _ (u : List ℕ) (at : ℕ) (word : List ℕ) where
+  pub word-start : write u (at + 0) (drop 0 word) ≡ write u at word
+  word-start = let e : at + 0 ≡ at = omega arith in ap (λ (j : ℕ). write u j word) e
+
+  pub word-next : (i : ℕ) → i < length word → write (set u (at + i) (getD word i 0)) (at + (i + 1)) (drop (i + 1) word) ≡ write u (at + i) (drop i word)
+  unfolding write
+  word-next i l =
+      let e : at + (i + 1) ≡ at + i + 1 = omega arith in
+      let s : i + 1 ≡ suc i = omega arith in
+      ap₂ (λ (j k : ℕ). write (set u (at + i) (getD word i 0)) j (drop k word)) e s ∙ sym (ap (write u (at + i)) (drop-cons word i 0 l))
+
+  pub word-end : (i : ℕ) → length word ≤ i → write u (at + i) (drop i word) ≡ u
+  unfolding write
+  word-end i l = ap (write u (at + i)) (drop-of-length-le word l)
+
+-- Bytes in hexadecimal, with one more byte at the end, and how many digits and spaces they take.
+pub hexadecimal-more : (xs : List ℕ) (b : ℕ) → 0 < length xs → hexadecimal (xs ++ (b ∷ [])) ≡ hexadecimal xs ++ (space ∷ hexadecimal (b ∷ []))
+unfolding hexadecimal
+hexadecimal-more [] b h = absurd (omega arith)
+hexadecimal-more (x ∷ []) b h = refl
+hexadecimal-more (x ∷ y ∷ xs) b h = ap (λ (zs : List ℕ). digit (x / 16) ∷ digit (x % 16) ∷ space ∷ zs) (hexadecimal-more (y ∷ xs) b (omega arith))
+
+pub hexadecimal-length : (xs : List ℕ) → 0 < length xs → length (hexadecimal xs) + 1 ≡ 3 * length xs
+unfolding hexadecimal
+hexadecimal-length [] h = absurd (omega arith)
+hexadecimal-length (x ∷ []) h = refl
+hexadecimal-length (x ∷ y ∷ xs) h = omega (arith, hexadecimal-length (y ∷ xs) (omega arith))
+
+-- A byte's two digits.
+pub put-digits : (m : List ℕ) (at b high low : ℕ) → high ≡ digit (b / 16) → low ≡ digit (b % 16) → set (set m at high) (at + 1) low ≡ write m at (hexadecimal (b ∷ []))
+unfolding write hexadecimal
+put-digits m at b high low e f = rw (e, f)
+
+-- One more byte of a trace.
+take-more : (trace : List ℕ) (i : ℕ) → 0 < i → i < length trace
+    → hexadecimal (take (i + 1) trace) ≡ hexadecimal (take i trace) ++ (space ∷ hexadecimal (getD trace i 0 ∷ []))
+take-more trace i some l =
+    let s : i + 1 ≡ suc i = omega arith in
+    ap (λ (k : ℕ). hexadecimal (take k trace)) s ∙ ap hexadecimal (take-suc trace i 0 l)
+    ∙ hexadecimal-more (take i trace) (getD trace i 0) (omega (arith, length-take-le i trace (omega arith)))
+
+-- The bytes of a trace are put: the first, and one more behind a space.
+module _ (trace m u : List ℕ) (at : ℕ) where
+  pub trace-first : 0 < length trace → u ≡ write m at (hexadecimal (getD trace 0 0 ∷ [])) → Put m u at (at + 2) (hexadecimal (take 1 trace))
+  unfolding hexadecimal
+  trace-first l e = rw (take-suc trace 0 0 l) (record { place = refl; written = e })
+
+  pub trace-next : (v : List ℕ) (p i : ℕ) → 0 < i → i < length trace → Put m u at p (hexadecimal (take i trace))
+      → v ≡ write (set u p space) (p + 1) (hexadecimal (getD trace i 0 ∷ [])) → Put m v at (p + 3) (hexadecimal (take (i + 1) trace))
+  trace-next v p i some l h e =
+      let d = hexadecimal-length (getD trace i 0 ∷ []) (omega arith) in
+      rw (take-more trace i some l) (put-on h (put-on (put-one u p space) (record { place = omega (arith, d); written = e })))
+
+-- Where the first line of a verdict "invalid" ends, behind its second number.
+pub line-end : (u v : List ℕ) (p l q : ℕ) → p ≤ 18 → l ≤ 64 → Put u v (p + 1) q (decimal l) → q ≤ 29
+line-end u v p l q a b h = omega (arith, h .place, decimal-most l (omega arith))
+
+-- A word and a number behind a space are put, a line's end behind them, and the lines of "invalid" with its trace.
+module _ (m u : List ℕ) (p : ℕ) where
+  pub put-behind : (v word : List ℕ) (n r : ℕ) → length word ≤ 7 → n < 4294967296 → Put m u 0 p word → Put (set u p space) v (p + 1) r (decimal n)
+      → Put m v 0 r (behindWord word n) × (r ≤ 18)
+  unfolding behindWord
+  put-behind v word n r l k h i = (put-on h (put-on (put-one u p space) i), omega (arith, h .place, i .place, decimal-most n k))
+
+  pub put-ended : (xs : List ℕ) → Put m u 0 p xs → Put m (set u p lineFeed) 0 (p + 1) (xs ++ endLine)
+  put-ended xs h = put-on h (put-one u p lineFeed)
+
+  pub put-invalid : (v w trace : List ℕ) (c l q e : ℕ) → p ≤ 18 → l ≤ 64 → e < q + 1 + 3 * (1 + 2 * l) → Put m u 0 p (behindWord invalidWord c)
+      → Put (set u p space) v (p + 1) q (decimal l) → Put (set v q lineFeed) w (q + 1) e (hexadecimal (take (1 + 2 * l) trace))
+      → Put m (set w e lineFeed) 0 (e + 1) (printedFor (accepted (invalid c l)) trace) × (e + 1 ≤ 512)
+  unfolding behindWord printedFor
+  put-invalid v w trace c l q e a b d h i j = (
+    put-on (put-on (put-on (put-on h (put-on (put-one u p space) i)) (put-one v q lineFeed)) j) (put-one w e lineFeed),
+    omega (arith, line-end (set u p space) v p l q a b i),
+  )
+
+-- The bytes put are those of the verdict's lines.
+pub put-verdict : (m u trace : List ℕ) (r : ℕ) (v w : Verdict) → v ≡ w → Put m u 0 r (printedFor (answerOf w) trace) → r ≤ 512
+    → (r ≡ length (printedFor (answerOf v) trace)) × (u ≡ write m 0 (printedFor (answerOf v) trace)) × (r ≤ 512)
+put-verdict m u trace r v w e h l = rw e (omega (arith, h .place), h .written, l)
+
+-- The line of a refusal by its number.
+pub put-refused : (m u trace : List ℕ) (r k : ℕ) (x : Refusal) → k ≡ numberOf x → Put m u 0 r (behindWord refusedWord k ++ endLine)
+    → Put m u 0 r (printedFor (answerOf (Verdict.Refused x)) trace)
+unfolding behindWord printedFor answerOf
+put-refused m u trace r k x e h = subst (λ (j : ℕ). Put m u 0 r (behindWord refusedWord j ++ endLine)) e h
+
+-- What is shown of a verdict "invalid".
+pub printable-invalid : (v : Verdict) (c l : ℕ) → v ≡ Verdict.Invalid c l → Printable v → l ≤ 64
+unfolding Printable
+printable-invalid v c l e h = rw e at h

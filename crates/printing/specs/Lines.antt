@@ -1,0 +1,26 @@
+-- What the parts of `print` write.
+use Prim.Native.Nat.{ℕ, _+_, _≤_}
+use mathlib.Core.Path.{_≡_}
+use mathlib.Core.List.{List, _∷_, _++_}
+use lib.ListN.{length}
+use Rattle.semantics.specs.Printing.{space, decimal}
+use Rattle.routine.specs.Memory.{write}
+use Rattle.verifier.specs.declared.verdict.Verdict.{Verdict}
+
+-- Bytes are written from a place on, and `behind` is the place behind them.
+pub record Put (before after : List ℕ) (at behind : ℕ) (bytes : List ℕ) : Type 0 where
+  pub place : behind ≡ at + length bytes
+  pub written : after ≡ write before at bytes
+
+-- A word, a space and a number.
+unfoldable pub behindWord : (word : List ℕ) (n : ℕ) → List ℕ
+unfolding decimal
+behindWord word n = word ++ (space ∷ decimal n)
+
+-- A trace of at most 64 actions is shown.
+unfoldable pub Printable : Verdict → Type 0
+Printable (Verdict.Valid c) = Unit {0}
+Printable (Verdict.Invalid c l) = l ≤ 64
+Printable (Verdict.Stopped b) = Unit {0}
+Printable Verdict.ShortMemory = Unit {0}
+Printable (Verdict.Refused r) = Unit {0}

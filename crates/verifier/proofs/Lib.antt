@@ -1,0 +1,5 @@
+pub mod SearchLaws
+pub mod PathLaws
+pub mod LeastLaws
+pub mod WayLaws
+pub mod AnswerLaws

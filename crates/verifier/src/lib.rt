@@ -1,0 +1,9 @@
+// The verifier: the verdict on a sheet, and the least failing trace.
+mod least;
+mod limits;
+mod search;
+mod verdict;
+
+pub use limits::TRACE;
+pub use verdict::Verdict;
+pub use verdict::verify;
