@@ -36,7 +36,7 @@ use Rattle.progression.proofs.PlaceLaws.{NodesAt, SetsAt, nodes-left, n
 use Rattle.progression.proofs.StepLaws.{tabled-step, members-possible}
 
 -- The set of possible states with one entry more.
-after-more : (sheet : Sheet) (set : ℕ → Bool) (h : History) (e : Entry) → setAfter sheet set (h ++ (e ∷ [])) ≡ nextSet sheet (setAfter sheet set h) e
+pub after-more : (sheet : Sheet) (set : ℕ → Bool) (h : History) (e : Entry) → setAfter sheet set (h ++ (e ∷ [])) ≡ nextSet sheet (setAfter sheet set h) e
 unfolding setAfter
 after-more sheet set [] e = refl
 after-more sheet set (d ∷ h) e = after-more sheet (nextSet sheet set d) h e

@@ -36,7 +36,7 @@ module _ (bytes : List ℕ) (sheet : Sheet) (read : reading bytes ≡ accepted s
       let q = invalid-means sheet (starts bytes sheet read) budget c l invalid-is in
       ap length (q .2 .4) ∙ omega (arith, trace-length sheet (q .2 .0) (q .2 .1) (q .2 .2 .0 .0 .0), q .2 .3)
 
-  begins : (old : List ℕ) → take (1 + 2 * l) (written (outcome sheet budget .shown) old) ≡ outcome sheet budget .shown
+  pub begins : (old : List ℕ) → take (1 + 2 * l) (written (outcome sheet budget .shown) old) ≡ outcome sheet budget .shown
   unfolding written
   begins old = take-at (outcome sheet budget .shown) (drop (length (outcome sheet budget .shown)) old) (1 + 2 * l) shown-length
 

@@ -1,0 +1,307 @@
+-- The demands follow from the contracts. Assumes nothing.
+use Prim.Native.Nat.{ℕ, _+_, _*_, _≤_, _<_}
+use mathlib.Core.Path.{_≡_, refl, sym, ap, subst, _∙_}
+use mathlib.Core.Logic.{_⊎_, inl, inr, ⊎-elim, _↔_}
+use mathlib.Core.List.{List, [], _∷_, _++_, List·Memᴰ}
+use mathlib.Core.Bool.{Bool, true, false}
+use native.Mathlib.Omega.{arith}
+use lib.ListN.{length, take, drop}
+use lib.Seq.{take-at}
+use Rattle.lists.specs.Lists.{every}
+use Rattle.states.specs.declared.States.{States}
+use Rattle.states.specs.Sets.{member, setOf, members}
+use Rattle.states.proofs.SetLaws.{members-mem, mem-members}
+use Rattle.reader.specs.Syntax.{Objective, known, Sheet}
+use Rattle.reader.specs.Truth.{isState, holds}
+use Rattle.reader.specs.Format.{Answer, accepted, refused, reading}
+use Rattle.reader.specs.declared.refusal.Refusal.{Refusal}
+use Rattle.reader.specs.declared.sheet.Answer.{Answer as Said}
+use Rattle.reader.specs.Answers.{numberOf, answerOf as readOf, withoutSheet}
+use Rattle.reader.proofs.SheetLaws.{accepted-shape}
+use Rattle.semantics.specs.Runs.{Entry, entry, History, extended, replies, IsRun, lastState, Known, Holds, holdsAfter}
+use Rattle.semantics.specs.Routine.{Policy, done, perform, routine, Follows, isFull, Following, Full, Failing}
+use Rattle.semantics.specs.Verdict.{Verdict as Meant, historyCount, trace, TraceBefore, valid, invalid, stopped, Outcome, outcome, written, Verified, verified}
+use Rattle.semantics.specs.Checker.{checkedFor, checked}
+use Rattle.semantics.specs.Replies.{leftAfter}
+use Rattle.semantics.specs.Progression.{possible, satisfies, startSet, setAfter}
+use Rattle.semantics.proofs.RunLaws.{tested-holds, holds-tested}
+use Rattle.semantics.proofs.ProgressionLaws.{possible-run, run-possible, holds-possible, set-states}
+use Rattle.semantics.proofs.VerdictLaws.{stopped-means, means-stopped, valid-means, means-valid, invalid-means, means-invalid}
+use Rattle.semantics.proofs.ReplyLaws.{isDone, full-left, left-next, next-follows}
+use Rattle.semantics.proofs.MemoryLaws.{verified-accepted, verified-refused, memory-kept, begins}
+use Rattle.semantics.proofs.AcceptedLaws.{starts}
+use Rattle.routine.specs.declared.sheet.Prepared.{Prepared}
+use Rattle.routine.specs.Memory.{setAt}
+use Rattle.routine.specs.Tables.{sheetStart, sheetHeads, nodeCells, setWords, preparedOf, startOf, prepared}
+use Rattle.routine.proofs.TableLaws.{Tabled, prepared-tabled, ready-sheet}
+use Rattle.progression.specs.declared.place.Place.{Place}
+use Rattle.progression.specs.Machine.{knownBy, settled, stepped}
+use Rattle.progression.proofs.PlaceLaws.{table-known}
+use Rattle.progression.proofs.StepLaws.{state-byte, tabled-step, members-possible, member-states}
+use Rattle.progression.proofs.RoutineLaws.{after-more, Reached, AtAction, AtEnd, start-reached, reached-place}
+use Rattle.verifier.specs.declared.verdict.Verdict.{Verdict}
+use Rattle.verifier.specs.Answers.{answerOf as verifiedOf}
+use Rattle.checker.specs.declared.Checked.{Checked}
+use Rattle.checker.specs.Shown.{answerOf as checkedOf}
+use Rattle.claims.specs.Demands.{Library, Prepares, Carried, begin, onward, Came, first, further, Demand1, Demand2, Supposed, Demand3Verdict, Demand3}
+use Rattle.claims.proofs.NumberLaws.{said-one, verdict-one, check-one}
+
+-- What the contracts say of calls.
+pub record Contracts (library : Library) : Type 0 where
+  pub reads-right : (bytes : List ℕ) (a : Said) → library .reads bytes a → readOf a ≡ withoutSheet (reading bytes)
+  pub prepares-right : (bytes heads nodes sets : List ℕ) (p : Prepared) (heads′ nodes′ sets′ : List ℕ) → library .prepares bytes heads nodes sets p heads′ nodes′ sets′
+      → (preparedOf p ≡ startOf (reading bytes)) × (heads′ ≡ prepared sheetHeads (reading bytes) heads) × (nodes′ ≡ prepared nodeCells (reading bytes) nodes)
+      × (sets′ ≡ prepared setWords (reading bytes) sets)
+  pub settles-right : (nodes sets : List ℕ) (set : States) (at : ℕ) (p : Place) → library .settles nodes sets set at p → p ≡ settled nodes sets set at
+  pub steps-right : (heads sets : List ℕ) (set : States) (a r : ℕ) (next : States) → library .steps heads sets set a r next → next ≡ stepped heads sets set a r
+  pub knows-right : (sets : List ℕ) (k : ℕ) (set : States) (b : Bool) → library .knows sets k set b → b ≡ knownBy sets set k
+  pub verifies-right : (bytes : List ℕ) (budget : ℕ) (old : List ℕ) (r : Verdict) (memory : List ℕ) → library .verifies bytes budget old r memory
+      → (verifiedOf r ≡ verified bytes budget old .answer) × (memory ≡ verified bytes budget old .memory)
+  pub checks-right : (bytes shown : List ℕ) (r : Checked) → library .checks bytes shown r → checkedOf r ≡ checked bytes shown
+
+module _ (library : Library) (contracts : Contracts library) where
+  -- Demand 1.
+  pub demand1 : Demand1 library
+  unfolding verifiedOf
+  demand1 = record {
+    memory-holds = λ bytes budget old r memory call.
+        let v = contracts .verifies-right bytes budget old r memory call in
+        ⊎-elim
+        (λ k. inl (v .1 ∙ k .0, λ c l e. k .1 c l (sym (v .0) ∙ ap verifiedOf e)))
+        (λ k.
+        let shown = k .5 in
+        inr (
+          k .0,
+          shown .0,
+          shown .1,
+          k .3,
+          shown .2,
+          verdict-one r (Verdict.Invalid (historyCount (k .0)) (length (shown .0))) (v .0 ∙ k .4 ∙ ap (λ (l : ℕ). accepted (invalid (historyCount (k .0)) l)) (sym (shown .3))),
+          v .1 ∙ k .6 ∙ ap (λ (s : List ℕ). s ++ drop (length s) old) (shown .4),
+          ap length (v .1) ∙ k .8,
+        ))
+        (memory-kept bytes budget old);
+    answer-fixed = λ bytes budget old r q memory other c d.
+        let v = contracts .verifies-right bytes budget old r memory c in
+        let w = contracts .verifies-right bytes budget old q other d in
+        (verdict-one r q (v .0 ∙ sym (w .0)), v .1 ∙ sym (w .1));
+  }
+
+  -- The reader and the checker, by the sheet's reading.
+  without-accepted : (x : Answer Sheet) → accepted tt ≡ withoutSheet x → (sheet : Sheet) × (x ≡ accepted sheet)
+  unfolding withoutSheet
+  without-accepted (accepted sheet) e = (sheet, refl)
+  without-accepted (refused r) e = let z : _≡_ {A = ℕ} 0 1 = cc in absurd (omega arith)
+
+  without-refused : (x : Answer Sheet) (k : ℕ) → refused k ≡ withoutSheet x → x ≡ refused k
+  unfolding withoutSheet
+  without-refused (accepted sheet) k e = let z : _≡_ {A = ℕ} 0 1 = cc in absurd (omega arith)
+  without-refused (refused r) k e = cc
+
+  checked-refused : (shown : List ℕ) (x : Answer Sheet) (k : ℕ) → refused k ≡ checkedFor shown x → x ≡ refused k
+  unfolding checkedFor
+  checked-refused shown (accepted sheet) k e = let z : _≡_ {A = ℕ} 0 1 = cc in absurd (omega arith)
+  checked-refused shown (refused r) k e = cc
+
+  verified-number : (bytes : List ℕ) (budget : ℕ) (old : List ℕ) → 129 ≤ length old → (k : ℕ) → refused k ≡ verified bytes budget old .answer → reading bytes ≡ refused k
+  verified-number bytes budget old enough k e = go (reading bytes) refl
+    where
+      go : (x : Answer Sheet) → reading bytes ≡ x → x ≡ refused k
+      go (accepted sheet) read = let d = e ∙ ap (λ (v : Verified). v .answer) (verified-accepted bytes sheet read budget old enough) in let z : _≡_ {A = ℕ} 0 1 = cc in absurd (omega arith)
+      go (refused r) read = let d = e ∙ ap (λ (v : Verified). v .answer) (verified-refused bytes r read budget old enough) in cc
+
+  -- The tables of a sheet, and the set carried along a history.
+  module _ (bytes : List ℕ) (sheet : Sheet) (heads nodes sets : List ℕ) (start : States) (tables : Prepares library bytes sheet heads nodes sets start) where
+    abbrev few : sheet .facts ≤ 8
+    few = accepted-shape bytes sheet (tables .read) .facts-most
+
+    made : (preparedOf (Prepared.Ready start) ≡ startOf (reading bytes)) × (heads ≡ prepared sheetHeads (reading bytes) (tables .heads₀))
+        × (nodes ≡ prepared nodeCells (reading bytes) (tables .nodes₀)) × (sets ≡ prepared setWords (reading bytes) (tables .sets₀))
+    made = contracts .prepares-right bytes (tables .heads₀) (tables .nodes₀) (tables .sets₀) (Prepared.Ready start) heads nodes sets (tables .made)
+
+    tabled : Tabled sheet heads nodes sets
+    tabled =
+        let m = made in
+        rw (m .1, m .2, m .3)
+        (prepared-tabled bytes sheet (tables .read) (tables .heads₀) (tables .nodes₀) (tables .sets₀) (tables .heads-long) (tables .nodes-long) (tables .sets-long))
+
+    start-is : start ≡ sheetStart sheet
+    start-is =
+        let q = ready-sheet (reading bytes) start (made .0) in
+        let same : accepted (q .0) ≡ accepted sheet = sym (q .1) ∙ tables .read in
+        let one : q .0 ≡ sheet = cc in
+        q .2 ∙ ap sheetStart one
+
+    carried-set : (h : History) (set : States) → Carried library heads sets start (length (sheet .actions)) h set → set ≡ setOf (setAfter sheet (startSet sheet) h)
+    unfolding setAfter sheetStart startSet
+    carried-set h set begin = start-is
+    carried-set h set (onward g before a r next c l s) =
+        contracts .steps-right heads sets before a r next s ∙ ap (λ (u : States). stepped heads sets u a r) (carried-set g before c)
+        ∙ tabled-step sheet few heads nodes sets tabled (setAfter sheet (startSet sheet) g) (set-states sheet g) a l r ∙ ap setOf (sym (after-more sheet (startSet sheet) g (entry a r)))
+
+    -- Its states are the last states of the runs with the history; what a formula's table says of it is what holds in all of them.
+    carried-states : (h : History) (set : States) → Carried library heads sets start (length (sheet .actions)) h set
+        → (t : ℕ) → (member set t ≡ true) ↔ ((run : List ℕ) × IsRun sheet h run × (lastState run ≡ t))
+    carried-states h set c t = (there, back)
+      where
+        same : members set ≡ possible sheet h
+        same = ap members (carried-set h set c) ∙ members-possible sheet few h
+
+        isMember : member set t ≡ setAfter sheet (startSet sheet) h t
+        isMember = ap (λ (u : States). member u t) (carried-set h set c) ∙ member-states sheet few (setAfter sheet (startSet sheet) h) (set-states sheet h) t
+
+        there : member set t ≡ true → (run : List ℕ) × IsRun sheet h run × (lastState run ≡ t)
+        there m =
+            let l = state-byte sheet few t (set-states sheet h t (sym isMember ∙ m)) in
+            possible-run sheet h (subst (List·Memᴰ t) same (mem-members set t l m))
+
+        back : (run : List ℕ) × IsRun sheet h run × (lastState run ≡ t) → member set t ≡ true
+        back q = members-mem set (subst (List·Memᴰ t) (sym same) (subst (λ (s : ℕ). List·Memᴰ s (possible sheet h)) (q .2) (run-possible sheet h (q .0) (q .1)))) .1
+
+    carried-known : (h : History) (set : States) → Carried library heads sets start (length (sheet .actions)) h set
+        → (k : ℕ) (f : Objective) → setAt sets k ≡ setOf (λ s. holds f s) → (b : Bool) → library .knows sets k set b
+        → (b ≡ true) ↔ ((run : List ℕ) → IsRun sheet h run → holds f (lastState run) ≡ true)
+    unfolding Holds Known holdsAfter knownBy satisfies
+    carried-known h set c k f e b call =
+        let same : members set ≡ possible sheet h = ap members (carried-set h set c) ∙ members-possible sheet few h in
+        let tested : b ≡ holdsAfter sheet h (known f) =
+        contracts .knows-right sets k set b call ∙ table-known (setAt sets) set k f e ∙ ap (every (holds f)) same ∙ sym (holds-possible sheet h (known f)) in
+        (λ t. tested-holds sheet h (known f) (sym tested ∙ t), λ t. tested ∙ holds-tested sheet h (known f) t)
+
+    -- The place and the set to which calls come are those of the routine.
+    came-reached : (h : History) (at : ℕ) (set : States) → Came library heads nodes sets start h at set → Reached sheet heads nodes sets h at set
+    came-reached h at set first = subst (Reached sheet heads nodes sets [] 0) (sym start-is) (start-reached sheet heads nodes sets bytes (tables .read) tabled)
+    came-reached h at set (further g before-at before node a r next c s t) =
+        go (reached-place sheet heads nodes sets bytes (tables .read) tabled g before-at before (came-reached g before-at before c)) (contracts .settles-right nodes sets before before-at (Place.Act node a) s)
+      where
+        go : AtAction sheet heads nodes sets g before-at before ⊎ AtEnd sheet heads nodes sets g before-at before → Place.Act node a ≡ settled nodes sets before before-at
+            → Reached sheet heads nodes sets (extended g a r) (node + 1) next
+        go (inl x) e =
+            let same : Place.Act node a ≡ Place.Act (x .place) (x .action) = e ∙ x .settles in
+            let place : x .place ≡ node = cc in
+            let action : x .action ≡ a = cc in
+            let stepping : stepped heads sets before (x .action) r ≡ next = ap (λ (b : ℕ). stepped heads sets before b r) action ∙ sym (contracts .steps-right heads sets before a r next t) in
+            subst (λ (b : ℕ). Reached sheet heads nodes sets (extended g b r) (node + 1) next) action
+            (subst (λ (p : ℕ). Reached sheet heads nodes sets (extended g (x .action) r) (p + 1) next) place
+            (subst (Reached sheet heads nodes sets (extended g (x .action) r) (x .place + 1)) stepping (x .onward r)))
+        go (inr x) e =
+            let same : Place.Act node a ≡ Place.End (holdsAfter sheet g (sheet .goal)) = e ∙ x .settles in
+            let z : _≡_ {A = ℕ} 0 1 = cc in absurd (omega arith)
+
+    module _ (h : History) (at : ℕ) (set : States) (came : Came library heads nodes sets start h at set) where
+      here : AtAction sheet heads nodes sets h at set ⊎ AtEnd sheet heads nodes sets h at set
+      here = reached-place sheet heads nodes sets bytes (tables .read) tabled h at set (came-reached h at set came)
+
+      follows-here : Follows (routine sheet) h
+      follows-here = came-reached h at set came .follows
+
+      action-told : (node a : ℕ) → library .settles nodes sets set at (Place.Act node a)
+          → Follows (routine sheet) h × ((r : ℕ) → Follows (routine sheet) (extended h a r)) × ((e : Entry) (g : History) → Follows (routine sheet) (h ++ (e ∷ g)) → e .action ≡ a)
+      action-told node a call = go here (contracts .settles-right nodes sets set at (Place.Act node a) call)
+        where
+          go : AtAction sheet heads nodes sets h at set ⊎ AtEnd sheet heads nodes sets h at set → Place.Act node a ≡ settled nodes sets set at
+              → Follows (routine sheet) h × ((r : ℕ) → Follows (routine sheet) (extended h a r)) × ((e : Entry) (g : History) → Follows (routine sheet) (h ++ (e ∷ g)) → e .action ≡ a)
+          go (inl x) e =
+              let same : Place.Act node a ≡ Place.Act (x .place) (x .action) = e ∙ x .settles in
+              let action : x .action ≡ a = cc in
+              let next : leftAfter (routine sheet) (replies h) ≡ perform a (x .after) = x .next ∙ ap (λ (b : ℕ). perform b (x .after)) action in (
+                follows-here,
+                λ r. next-follows (routine sheet) h a (x .after) r follows-here next,
+                λ d g f. let n = left-next (routine sheet) h d g f in let k : perform (d .action) (n .0) ≡ perform a (x .after) = sym (n .1) ∙ next in cc,
+              )
+          go (inr x) e =
+              let same : Place.Act node a ≡ Place.End (holdsAfter sheet h (sheet .goal)) = e ∙ x .settles in
+              let z : _≡_ {A = ℕ} 0 1 = cc in absurd (omega arith)
+
+      end-told : (goal : Bool) → library .settles nodes sets set at (Place.End goal) → Follows (routine sheet) h × (isFull (routine sheet) h ≡ true) × ((goal ≡ true) ↔ Holds sheet h (sheet .goal))
+      unfolding isDone
+      end-told goal call = go here (contracts .settles-right nodes sets set at (Place.End goal) call)
+        where
+          go : AtAction sheet heads nodes sets h at set ⊎ AtEnd sheet heads nodes sets h at set → Place.End goal ≡ settled nodes sets set at
+              → Follows (routine sheet) h × (isFull (routine sheet) h ≡ true) × ((goal ≡ true) ↔ Holds sheet h (sheet .goal))
+          go (inl x) e =
+              let same : Place.End goal ≡ Place.Act (x .place) (x .action) = e ∙ x .settles in
+              let z : _≡_ {A = ℕ} 0 1 = cc in absurd (omega arith)
+          go (inr x) e =
+              let same : Place.End goal ≡ Place.End (holdsAfter sheet h (sheet .goal)) = e ∙ x .settles in
+              let tested : goal ≡ holdsAfter sheet h (sheet .goal) = cc in (
+                follows-here,
+                full-left (routine sheet) h follows-here ∙ ap isDone (x .nothing),
+                (λ t. tested-holds sheet h (sheet .goal) (sym tested ∙ t), λ t. tested ∙ holds-tested sheet h (sheet .goal) t),
+              )
+
+  -- Demand 2.
+  pub demand2 : Demand2 library
+  unfolding readOf verifiedOf checkedOf withoutSheet checked checkedFor
+  demand2 = record {
+    read-accepts = λ bytes a call.
+        let e = contracts .reads-right bytes a call in
+        (λ k. without-accepted (reading bytes) (sym (ap readOf k) ∙ e), λ q. said-one a Said.Accepted (e ∙ ap withoutSheet (q .1)));
+    read-refuses = λ bytes a call r.
+        let e = contracts .reads-right bytes a call in
+        (λ k. without-refused (reading bytes) (numberOf r) (sym (ap readOf k) ∙ e), λ q. said-one a (Said.Refused r) (e ∙ ap withoutSheet q));
+    verify-refuses = λ bytes budget old a memory call enough r.
+        let e = contracts .verifies-right bytes budget old a memory call .0 in (
+          λ k. verified-number bytes budget old enough (numberOf r) (sym (ap verifiedOf k) ∙ e),
+          λ q. verdict-one a (Verdict.Refused r) (e ∙ ap (λ (v : Verified). v .answer) (verified-refused bytes (numberOf r) q budget old enough)),
+        );
+    check-refuses = λ bytes shown a call r.
+        let e = contracts .checks-right bytes shown a call in
+        (λ k. checked-refused shown (reading bytes) (numberOf r) (sym (ap checkedOf k) ∙ e), λ q. check-one a (Checked.Refused r) (e ∙ ap (checkedFor shown) q));
+    steps-right = λ bytes sheet heads nodes sets start tables. carried-states bytes sheet heads nodes sets start tables;
+    actions-right = λ bytes sheet heads nodes sets start tables h at set came. action-told bytes sheet heads nodes sets start tables h at set came;
+    ends-right = λ bytes sheet heads nodes sets start tables h at set came. end-told bytes sheet heads nodes sets start tables h at set came;
+  }
+
+  -- Demand 3, of the verdict.
+  module _ (bytes : List ℕ) (sheet : Sheet) (budget : ℕ) (old : List ℕ) (r : Verdict) (memory : List ℕ) (supposed : Supposed library bytes sheet budget old r memory) where
+    abbrev read : reading bytes ≡ accepted sheet
+    read = supposed .read
+
+    answered : (verifiedOf r ≡ accepted (outcome sheet budget .verdict)) × (memory ≡ written (outcome sheet budget .shown) old)
+    answered =
+        let v = contracts .verifies-right bytes budget old r memory (supposed .call) in
+        let w = verified-accepted bytes sheet read budget old (supposed .enough) in
+        (v .0 ∙ ap (λ (x : Verified). x .answer) w, v .1 ∙ ap (λ (x : Verified). x .memory) w)
+
+    verdict-is : (q : Verdict) (v : Meant) → verifiedOf q ≡ accepted v → (r ≡ q) ↔ (outcome sheet budget .verdict ≡ v)
+    verdict-is q v e =
+        (λ k. let d : accepted (outcome sheet budget .verdict) ≡ accepted v = sym (answered .0) ∙ ap verifiedOf k ∙ e in cc, λ k. verdict-one r q (answered .0 ∙ ap accepted k ∙ sym e))
+
+    demand3-verdict : Demand3Verdict library bytes sheet budget old r memory
+    unfolding verifiedOf
+    demand3-verdict = record {
+      invalid-exactly = λ within. (
+        λ q.
+            let i = invalid-means sheet (starts bytes sheet read) budget (historyCount sheet) (q .0) (verdict-is (Verdict.Invalid (historyCount sheet) (q .0)) (invalid (historyCount sheet) (q .0)) refl .0 (q .1)) in
+            (i .2 .0, i .2 .1, i .2 .2),
+        λ q.
+            let i = means-invalid sheet budget within (q .0) (q .1) (q .2) in
+            (i .0, verdict-is (Verdict.Invalid (historyCount sheet) (i .0)) (invalid (historyCount sheet) (i .0)) refl .1 (i .1)),
+      );
+      shown-least = λ c l e.
+          let told = verdict-is (Verdict.Invalid c l) (invalid c l) refl .0 e in
+          let i = invalid-means sheet (starts bytes sheet read) budget c l told in
+          let shown = i .2 in (
+            shown .0,
+            shown .1,
+            shown .2,
+            shown .3,
+            ap (take (1 + 2 * l)) (answered .1) ∙ begins bytes sheet read budget c l told old ∙ shown .4,
+            shown .5,
+          );
+      valid-exactly = λ within. (
+        λ e. valid-means sheet budget (historyCount sheet) (verdict-is (Verdict.Valid (historyCount sheet)) (valid (historyCount sheet)) refl .0 e) .2,
+        λ none. verdict-is (Verdict.Valid (historyCount sheet)) (valid (historyCount sheet)) refl .1 (ap (λ (o : Outcome). o .verdict) (means-valid sheet (starts bytes sheet read) budget within none)),
+      );
+      stopped-exactly = (
+        λ e. stopped-means sheet budget budget (verdict-is (Verdict.Stopped budget) (stopped budget) refl .0 e) .0,
+        λ l. verdict-is (Verdict.Stopped budget) (stopped budget) refl .1 (ap (λ (o : Outcome). o .verdict) (means-stopped sheet budget l)),
+      );
+    }
+
+  pub demand3 : Demand3 library
+  demand3 = record {
+    known-exactly = λ bytes sheet heads nodes sets start tables h run p set c. carried-known bytes sheet heads nodes sets start tables h set c;
+    verdict = λ bytes sheet budget old r memory supposed. demand3-verdict bytes sheet budget old r memory supposed;
+  }
