@@ -1,3 +1,4 @@
 pub mod NumberLaws
 pub mod DemandLaws
 pub mod Demands
+pub mod Ends

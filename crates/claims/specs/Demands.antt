@@ -64,7 +64,7 @@ module _ (library : Library) where
         → ((memory ≡ old) × ((c l : ℕ) → r ≡ Verdict.Invalid c l → ⊥))
         ⊎ ((sheet : Sheet) × (h : History) × (run : List ℕ) × (reading bytes ≡ accepted sheet) × Failing sheet h run × (r ≡ Verdict.Invalid (historyCount sheet) (length h))
         × (memory ≡ trace h run ++ drop (length (trace h run)) old) × (length memory ≡ length old))
-    -- "With an answer that document 01 fixes": the same call gets the same answer. (That every call ends is part of what the prover asks of each function.)
+    -- "With an answer that document 01 fixes": the same call gets the same answer. ("Every call ends": proofs/Ends.antt.)
     pub answer-fixed : (bytes : List ℕ) (budget : ℕ) (old : List ℕ) (r q : Verdict) (memory other : List ℕ) → library .verifies bytes budget old r memory → library .verifies bytes budget old q other
         → (r ≡ q) × (memory ≡ other)
 
