@@ -12,6 +12,9 @@ pub const NODE_CELLS: usize = 8192;
 /// The words of its sets of states, four each.
 pub const SET_WORDS: usize = 40_960;
 
+/// The most bytes that the printed lines take.
+pub const LINES: usize = 512;
+
 /// A set of states as words: state s has weight 2^(s mod 64) in word s div 64.
 pub type Words = [u64; 4];
 
@@ -41,6 +44,20 @@ extern "C" {
         set: &Words,
         at: usize,
     ) -> u64;
+
+    fn recovery_verify(
+        bytes: *const u8,
+        length: usize,
+        budget: u32,
+        trace: *mut u8,
+        trace_length: usize,
+        verdict: &mut [u64; 3],
+    ) -> u8;
+
+    fn recovery_check(bytes: *const u8, length: usize, trace: *const u8, trace_length: usize)
+        -> u8;
+
+    fn recovery_print(bytes: *const u8, length: usize, out: &mut [u8; LINES]) -> usize;
 }
 
 /// The memory that is lent for a sheet's tables.
@@ -56,6 +73,14 @@ pub struct Tables {
 pub enum Place {
     Act { node: usize, action: usize },
     End { goal: bool },
+}
+
+/// The verdict on a sheet that is not refused.
+#[derive(Clone, Copy, Debug, PartialEq, Eq)]
+pub enum Verdict {
+    Valid { count: u32 },
+    Invalid { count: u32, length: usize },
+    Stopped { budget: u32 },
 }
 
 impl Tables {
@@ -117,4 +142,65 @@ pub fn settle(tables: &Tables, set: &Words, at: usize) -> Place {
             action: (place % 65536) as usize,
         },
     }
+}
+
+/// The verdict, or the number of the refusal. The memory of an invalid sheet
+/// begins with the least failing trace.
+pub fn verify(bytes: &[u8], budget: u32, trace: &mut [u8]) -> Result<Verdict, u8> {
+    let mut verdict = [0; 3];
+    match verify_words(bytes, budget, trace, &mut verdict) {
+        0 => Ok(verdict_of(verdict)),
+        number => Err(number),
+    }
+}
+
+/// The same in numbers: 0 and the verdict's three words, or the refusal's number.
+pub fn verify_words(bytes: &[u8], budget: u32, trace: &mut [u8], verdict: &mut [u64; 3]) -> u8 {
+    // SAFETY: as above.
+    unsafe {
+        recovery_verify(
+            bytes.as_ptr(),
+            bytes.len(),
+            budget,
+            trace.as_mut_ptr(),
+            trace.len(),
+            verdict,
+        )
+    }
+}
+
+fn verdict_of(words: [u64; 3]) -> Verdict {
+    let small = |word: u64| u32::try_from(word).expect("a word of 32 bits");
+    match words {
+        [0, count, 0] => Verdict::Valid {
+            count: small(count),
+        },
+        [1, count, length] => Verdict::Invalid {
+            count: small(count),
+            length: small(length) as usize,
+        },
+        [2, budget, 0] => Verdict::Stopped {
+            budget: small(budget),
+        },
+        _ => panic!("no verdict: {words:?}"),
+    }
+}
+
+/// Whether the trace is that of a full run that fails the goal, or the number of
+/// the sheet's refusal.
+pub fn check(bytes: &[u8], trace: &[u8]) -> Result<bool, u8> {
+    // SAFETY: as above.
+    let number =
+        unsafe { recovery_check(bytes.as_ptr(), bytes.len(), trace.as_ptr(), trace.len()) };
+    match number {
+        0 => Ok(true),
+        255 => Ok(false),
+        _ => Err(number),
+    }
+}
+
+/// Writes what `planverify` prints for the sheet, and gives its length.
+pub fn print(bytes: &[u8], out: &mut [u8; LINES]) -> usize {
+    // SAFETY: as above.
+    unsafe { recovery_print(bytes.as_ptr(), bytes.len(), out) }
 }

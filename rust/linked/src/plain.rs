@@ -1,12 +1,12 @@
-//! A sheet's tables, steps over them and where the program settles, as a plain
-//! Rust program does it: what the proved functions are compared with.
+//! A sheet's tables, steps over them, where the program settles and the verdict,
+//! as a plain Rust program does it: what the proved functions are compared with.
 
-use recovery::sheet::{Action, Epistemic, Program, Sheet};
+use recovery::sheet::{Action, Epistemic, Program, Sheet, MAX_ACTION_NODES};
 use recovery::states::{states, State};
 use recovery::step::start_states;
 use recovery::truth::{holds, holds_between};
 
-use crate::{Place, Tables, Words};
+use crate::{Place, Tables, Verdict, Words};
 
 /// A set's words.
 pub fn words(members: impl IntoIterator<Item = State>) -> Words {
@@ -147,10 +147,20 @@ fn set_at(tables: &Tables, number: usize) -> &[u64] {
     &tables.sets[4 * number..4 * number + 4]
 }
 
-/// The states possible after an action and its reply, over the tables of a sheet.
+/// The places of an action's rows and replies, and how many replies it has.
+fn head_at(tables: &Tables, action: usize) -> [usize; 3] {
+    [0, 1, 2].map(|i| usize::from(tables.heads[3 * action + i]))
+}
+
+/// Replaces the possible states by those after an action and its reply, over the
+/// tables of a sheet.
 #[inline(never)]
 pub fn step(tables: &Tables, set: &mut Words, action: usize, reply: usize) {
-    let [rows, replies, count] = [0, 1, 2].map(|i| usize::from(tables.heads[3 * action + i]));
+    advance(tables, set, action, reply);
+}
+
+fn advance(tables: &Tables, set: &mut Words, action: usize, reply: usize) {
+    let [rows, replies, count] = head_at(tables, action);
     if reply >= count {
         *set = [0; 4];
         return;
@@ -177,6 +187,10 @@ pub fn step(tables: &Tables, set: &mut Words, action: usize, reply: usize) {
 /// Where the program settles from a node on, over the tables of a sheet.
 #[inline(never)]
 pub fn settle(tables: &Tables, set: &Words, at: usize) -> Place {
+    settled(tables, set, at)
+}
+
+fn settled(tables: &Tables, set: &Words, at: usize) -> Place {
     let mut node = at;
     loop {
         let cells: [u16; 4] = tables.nodes[4 * node..4 * node + 4].try_into().unwrap();
@@ -201,4 +215,114 @@ pub fn settle(tables: &Tables, set: &Words, at: usize) -> Place {
         };
         node += 1 + skip;
     }
+}
+
+/// The verdict over the tables of a sheet and its start set. The least failing
+/// trace is written to the front of `memory`.
+pub fn verify(tables: &Tables, start: &Words, budget: u32, memory: &mut [u8]) -> Verdict {
+    let mut search = Search {
+        tables,
+        budget,
+        count: 0,
+        path: [(0, 0); MAX_ACTION_NODES],
+    };
+    match search.visit(start, 0, 0) {
+        Ok(()) => Verdict::Valid {
+            count: search.count,
+        },
+        Err(Halt::OverBudget) => Verdict::Stopped { budget },
+        Err(Halt::GoalFails { length }) => {
+            show(tables, start, &search.path[..length], memory);
+            Verdict::Invalid {
+                count: search.count,
+                length,
+            }
+        }
+    }
+}
+
+/// Why the search ends early.
+enum Halt {
+    OverBudget,
+    GoalFails { length: usize },
+}
+
+struct Search<'a> {
+    tables: &'a Tables,
+    budget: u32,
+    /// Number of non-empty histories visited so far.
+    count: u32,
+    /// The actions and replies of the history at hand.
+    path: [(u8, u8); MAX_ACTION_NODES],
+}
+
+impl Search<'_> {
+    /// Visits all histories that continue the one at hand, of so many actions, in order.
+    fn visit(&mut self, set: &Words, at: usize, length: usize) -> Result<(), Halt> {
+        let (node, action) = match settled(self.tables, set, at) {
+            Place::End { goal: true } => return Ok(()),
+            Place::End { goal: false } => return Err(Halt::GoalFails { length }),
+            Place::Act { node, action } => (node, action),
+        };
+        let [_, _, replies] = head_at(self.tables, action);
+        for reply in 0..replies {
+            let mut after = *set;
+            advance(self.tables, &mut after, action, reply);
+            if after == [0; 4] {
+                continue;
+            }
+            if self.count == self.budget {
+                return Err(Halt::OverBudget);
+            }
+            self.count += 1;
+            self.path[length] = (action as u8, reply as u8);
+            self.visit(&after, node + 1, length + 1)?;
+        }
+        Ok(())
+    }
+}
+
+/// Writes the trace of the run with the least state list along a path.
+fn show(tables: &Tables, start: &Words, path: &[(u8, u8)], memory: &mut [u8]) {
+    // Only states from which the rest of the path can be gone may be chosen.
+    let mut open = [[u64::MAX; 4]; MAX_ACTION_NODES + 1];
+    for (index, &(action, reply)) in path.iter().enumerate().rev() {
+        open[index] = back(tables, &open[index + 1], action, reply);
+    }
+    let mut state = least(start, &open[0]);
+    memory[0] = state;
+    for (index, &(action, reply)) in path.iter().enumerate() {
+        let mut after = words([state]);
+        advance(tables, &mut after, action.into(), reply.into());
+        state = least(&after, &open[index + 1]);
+        memory[2 * index + 1] = 8 * action + reply;
+        memory[2 * index + 2] = state;
+    }
+}
+
+/// The states from which an action with its reply leads into a set.
+fn back(tables: &Tables, later: &Words, action: u8, reply: u8) -> Words {
+    let [rows, replies, _] = head_at(tables, action.into());
+    let mut told = *later;
+    for (kept, true_in) in told
+        .iter_mut()
+        .zip(set_at(tables, replies + usize::from(reply)))
+    {
+        *kept &= true_in;
+    }
+    if rows == replies {
+        return told;
+    }
+    let meets = |&state: &State| {
+        let row = set_at(tables, rows + usize::from(state));
+        row.iter().zip(&told).any(|(next, told)| next & told != 0)
+    };
+    words((0..=State::MAX).filter(meets))
+}
+
+/// The least state in both sets, which have one.
+fn least(some: &Words, others: &Words) -> State {
+    let common = [0, 1, 2, 3].map(|i| some[i] & others[i]);
+    let index = common.iter().position(|&word| word != 0).unwrap();
+    (64 * index as u32 + common[index].trailing_zeros()) as State
 }

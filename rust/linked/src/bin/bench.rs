@@ -1,50 +1,71 @@
 //! Times the proved functions beside Rust, on the same sheets in the same run.
 //!
-//! Each line gives the least time of a call in nanoseconds for each, and the
-//! quotients. Run it in release mode.
+//! Each line gives the least time of a call for each, and the quotients. Run it
+//! in release mode; an argument chooses one of the sections "reading", "tables",
+//! "steps" and "verifying".
 
 use std::hint::black_box;
 use std::time::{Duration, Instant};
 
-use linked::{plain, Place, Tables, Words};
+use linked::{plain, Place, Tables, Verdict, Words};
 use recovery::encode::encode;
 use recovery::random::{good, Random, Size};
 use recovery::read::read;
-use recovery::sheet::{Action, Epistemic, Objective, Program, Sheet, MAX_BYTES};
+use recovery::sheet::{
+    Action, Epistemic, Objective, Program, Sheet, MAX_ACTION_NODES, MAX_BYTES, MAX_TRACE,
+};
 use recovery::states::{State, StateSet};
 use recovery::step::{gather, keep};
 use recovery::truth::holds_knowing;
+use recovery::verify::{verify, Answer};
+
+/// The budget of `planverify`.
+const BUDGET: u32 = 1_000_000;
+
+const SAMPLE_1: [u8; 9] = [0x11, 0x0c, 0x90, 0x88, 0x1c, 0x40, 0x88, 0x20, 0x00];
 
 fn main() {
-    println!("reading");
-    println!(
-        "{:<66} {:>5} {:>6} {:>11} {:>11} {:>7}",
-        "sheet", "bytes", "answer", "proved ns", "Rust ns", "ratio"
-    );
-    for (name, bytes) in sheets() {
-        reading_row(&name, &bytes);
+    let section = std::env::args().nth(1);
+    let wanted = |name: &str| section.as_deref().is_none_or(|section| section == name);
+    if wanted("reading") {
+        println!("reading");
+        println!(
+            "{:<66} {:>5} {:>6} {:>11} {:>11} {:>7}",
+            "sheet", "bytes", "answer", "proved ns", "Rust ns", "ratio"
+        );
+        for (name, bytes) in sheets() {
+            reading_row(&name, &bytes);
+        }
     }
-    println!("\nreading and tables");
-    println!(
-        "{:<66} {:>5} {:>6} {:>11} {:>11} {:>7}",
-        "sheet", "bytes", "sets", "proved ns", "Rust ns", "ratio"
-    );
-    for (name, bytes) in prepared_sheets() {
-        prepare_row(&name, &bytes);
+    if wanted("tables") {
+        println!("\nreading and tables");
+        println!(
+            "{:<66} {:>5} {:>6} {:>11} {:>11} {:>7}",
+            "sheet", "bytes", "sets", "proved ns", "Rust ns", "ratio"
+        );
+        for (name, bytes) in prepared_sheets() {
+            prepare_row(&name, &bytes);
+        }
     }
-    println!("\nsteps and places, 8 facts");
-    println!(
-        "{:<28} {:>6} {:>9} {:>13} {:>15} {:>13} {:>15}",
-        "step",
-        "states",
-        "proved ns",
-        "Rust data ns",
-        "Rust tables ns",
-        "ratio to data",
-        "ratio to tables"
-    );
-    step_rows();
-    settle_rows();
+    if wanted("steps") {
+        println!("\nsteps and places, 8 facts");
+        println!(
+            "{:<28} {:>6} {:>9} {:>13} {:>15} {:>13} {:>15}",
+            "step",
+            "states",
+            "proved ns",
+            "Rust data ns",
+            "Rust tables ns",
+            "ratio to data",
+            "ratio to tables"
+        );
+        step_rows();
+        settle_rows();
+    }
+    if wanted("verifying") {
+        println!("\nverifying, 8 facts where none are named");
+        verify_rows();
+    }
 }
 
 fn reading_row(name: &str, bytes: &[u8]) {
@@ -212,6 +233,122 @@ fn step_row<P, D, R>(
     );
 }
 
+/// Times of verifying, in nanoseconds, and how many histories were counted.
+#[derive(Clone, Copy)]
+struct Verifying {
+    count: f64,
+    proved: f64,
+    data: f64,
+    tables: f64,
+    /// The proved reading and tables alone, which are in `proved` and in `tables`.
+    prepare: f64,
+}
+
+/// The proved verifier beside two in Rust: `recovery::verify::verify`, which
+/// carries sets of states forward over the sheet's tree (data), and
+/// `plain::verify` over the same tables, which the proved `prepare` makes in its
+/// time, so that the search itself is compared.
+fn verify_rows() {
+    println!(
+        "{:<54} {:>7} {:>8} {:>10} {:>10} {:>10} {:>8} {:>9} {:>10} {:>10}",
+        "sheet",
+        "verdict",
+        "count",
+        "proved ms",
+        "data ms",
+        "tables ms",
+        "to data",
+        "to tables",
+        "proved ns",
+        "tables ns"
+    );
+    println!("{:>145}", "of the search, a history");
+    let mut total = Verifying {
+        count: 0.0,
+        proved: 0.0,
+        data: 0.0,
+        tables: 0.0,
+        prepare: 0.0,
+    };
+    for (name, sheet) in verified_sheets() {
+        let (verdict, row) = time_verifying(&encode(&sheet));
+        verify_row(name, verdict, row);
+        total.count += row.count;
+        total.proved += row.proved;
+        total.data += row.data;
+        total.tables += row.tables;
+        total.prepare += row.prepare;
+    }
+    verify_row("all", "", total);
+    assert!(total.count >= 1e6);
+}
+
+fn verify_row(name: &str, verdict: &str, row: Verifying) {
+    // A difference of times tells nothing where there is little to search.
+    let search = |time: f64| match row.count {
+        10_000.0.. => format!("{:.1}", (time - row.prepare) / row.count),
+        _ => String::new(),
+    };
+    println!(
+        "{name:<54} {verdict:>7} {:>8} {:>10.4} {:>10.4} {:>10.4} {:>8.4} {:>9.2} {:>10} {:>10}",
+        row.count,
+        row.proved / 1e6,
+        row.data / 1e6,
+        row.tables / 1e6,
+        row.proved / row.data,
+        row.proved / row.tables,
+        search(row.proved),
+        search(row.tables)
+    );
+}
+
+/// The verdict in a word, and the times; asserts that the three give the same
+/// verdict and memory.
+fn time_verifying(bytes: &[u8]) -> (&'static str, Verifying) {
+    let [mut memory, mut memory_data, mut memory_tables] = [[7; MAX_TRACE]; 3];
+    let verdict = linked::verify(bytes, BUDGET, &mut memory).unwrap();
+    let (word, count, expected) = match verdict {
+        Verdict::Valid { count } => ("valid", count, Answer::Valid { count }),
+        Verdict::Invalid { count, length } => ("invalid", count, Answer::Invalid { count, length }),
+        Verdict::Stopped { budget } => ("stopped", budget, Answer::Stopped { budget }),
+    };
+    // What takes long is timed once.
+    let start = Instant::now();
+    assert_eq!(verify(bytes, BUDGET, &mut memory_data), expected);
+    let mut data = start.elapsed().as_nanos() as f64;
+    let long = data > 1e8;
+    let (mut tables, mut set) = (Tables::zeroed(), [0; 4]);
+    assert_eq!(linked::prepare(bytes, &mut tables, &mut set), 0);
+    let answer = plain::verify(&tables, &set, BUDGET, &mut memory_tables);
+    assert_eq!(answer, verdict);
+    assert_eq!([memory_data, memory_tables], [memory; 2]);
+
+    let mut least = [f64::INFINITY; 3];
+    for _ in 0..7 {
+        let proved = time(|| linked::verify(black_box(bytes), BUDGET, &mut memory));
+        let plain = time(|| {
+            linked::prepare(black_box(bytes), &mut tables, &mut set);
+            plain::verify(&tables, &set, BUDGET, &mut memory)
+        });
+        let prepare = time(|| linked::prepare(black_box(bytes), &mut tables, &mut set));
+        for (least, time) in least.iter_mut().zip([proved, plain, prepare]) {
+            *least = least.min(time);
+        }
+        if !long {
+            data = data.min(time(|| verify(black_box(bytes), BUDGET, &mut memory)));
+        }
+    }
+    let [proved, tables, prepare] = least;
+    let row = Verifying {
+        count: f64::from(count),
+        proved,
+        data,
+        tables,
+        prepare,
+    };
+    (word, row)
+}
+
 /// Nanoseconds of one call, over at least 30 milliseconds; the clock is read
 /// after twice as many calls each time, so that it costs nothing.
 fn time<T>(mut call: impl FnMut() -> T) -> f64 {
@@ -232,10 +369,7 @@ fn prepared_sheets() -> Vec<(String, Vec<u8>)> {
     let mut random = Random::new(8);
     let routines = (0..20).map(|_| encode(&good(&mut random, &Size::LARGE)));
     let sheets = [
-        (
-            "sample 1",
-            vec![0x11, 0x0c, 0x90, 0x88, 0x1c, 0x40, 0x88, 0x20, 0x00],
-        ),
+        ("sample 1", SAMPLE_1.to_vec()),
         (
             "the longest of 20 random routines of 8 facts",
             routines.max_by_key(Vec::len).unwrap(),
@@ -265,6 +399,168 @@ fn prepared_sheets() -> Vec<(String, Vec<u8>)> {
         ),
     ];
     sheets.map(|(name, bytes)| (name.to_string(), bytes)).into()
+}
+
+/// Probes of each fact, one that tells nothing, some that overlap, and changes
+/// with few and with many next states.
+struct Routine {
+    actions: Vec<Action>,
+}
+
+impl Routine {
+    /// The probe of a fact.
+    const FACT: u8 = 0;
+    /// A probe with two replies that are always true.
+    const NOTHING: u8 = 8;
+    /// A probe of which two or three of three replies are true, in most states.
+    const OVERLAP: u8 = 9;
+    /// Changes: each fact stays, is toggled; four facts are free; all are.
+    const STAY: u8 = 17;
+    const TOGGLE: u8 = 18;
+    const FREE_FOUR: u8 = 19;
+    const FREE: u8 = 20;
+
+    fn new() -> Routine {
+        let fact = |i: u8| Objective::Fact(i % 8);
+        let mut actions = Vec::new();
+        for i in 0..8 {
+            actions.push(Action::Probe(vec![fact(i), fact(i).negate()]));
+        }
+        actions.push(Action::Probe(vec![Objective::True; 2]));
+        for i in 0..8 {
+            actions.push(Action::Probe(vec![
+                fact(i).or(fact(i + 1)),
+                fact(i).negate().or(fact(i + 2)),
+                fact(i + 1).and(fact(i + 3)).negate(),
+            ]));
+        }
+        actions.push(Action::Change(stays(8)));
+        actions.push(Action::Change(toggles(8)));
+        actions.push(Action::Change(stays(4)));
+        actions.push(Action::Change(Objective::True));
+        assert_eq!(actions.len(), usize::from(Routine::FREE) + 1);
+        Routine { actions }
+    }
+
+    fn sheet(&self, goal: Epistemic, program: Program) -> Sheet {
+        Sheet {
+            edition: 1,
+            facts: 8,
+            actions: self.actions.clone(),
+            start: Objective::True,
+            goal,
+            program,
+        }
+    }
+
+    /// Valid, since the goal always holds.
+    fn valid(&self, numbers: &[u8]) -> Sheet {
+        let goal = Epistemic::Known(Objective::True);
+        self.sheet(goal, sequence(numbers))
+    }
+}
+
+/// The actions one after the other.
+fn sequence(numbers: &[u8]) -> Program {
+    let numbers = numbers.iter().rev();
+    numbers.fold(Program::End, |rest, &number| Program::act(number, rest))
+}
+
+/// After each probe of a fact a branch of four atoms, of which either side has a
+/// probe of its own.
+fn branching(facts: u8) -> Program {
+    let known = |i: u8| Epistemic::Known(Objective::Fact(i % 8));
+    let unknown = |i: u8| Epistemic::NotKnown(Objective::Fact(i % 8).negate());
+    (0..facts).rev().fold(Program::End, |rest, i| {
+        let condition = known(i)
+            .and(unknown(i + 1))
+            .or(known(i + 2).and(unknown(i + 3)));
+        let branch = Program::branch(
+            condition,
+            sequence(&[Routine::OVERLAP + i % 8]),
+            sequence(&[Routine::NOTHING, Routine::NOTHING]),
+            rest,
+        );
+        Program::act(Routine::FACT + i % 8, branch)
+    })
+}
+
+fn verified_sheets() -> Vec<(&'static str, Sheet)> {
+    let routine = Routine::new();
+    let each: Vec<u8> = (0..8).map(|i| Routine::FACT + i).collect();
+    let overlaps: Vec<u8> = (0..8).map(|i| Routine::OVERLAP + i).collect();
+    let nothing = |count| vec![Routine::NOTHING; count];
+    let after = |facts: usize, rest: Vec<u8>| [&each[..facts], &rest].concat();
+    let freeing = |i| [Routine::FACT + i, Routine::FREE_FOUR, Routine::OVERLAP + i];
+    let forgetting = |i| [Routine::FREE, Routine::FACT + i, Routine::FACT + i + 1];
+    // The last of the 256 leaves is the one where no fact holds.
+    let none = all((0..8).map(|i| Objective::Fact(i).negate()));
+    let decided = |i| {
+        let fact = Objective::Fact(i);
+        Epistemic::Known(fact.clone()).or(Epistemic::Known(fact.negate()))
+    };
+    vec![
+        ("18 probes that tell nothing", routine.valid(&nothing(18))),
+        (
+            "8 facts probed, 10 probes that tell nothing",
+            routine.valid(&after(8, nothing(10))),
+        ),
+        (
+            "12 overlapping probes of 3 replies",
+            routine.valid(&[&overlaps[..], &overlaps[..4]].concat()),
+        ),
+        (
+            "8 facts probed, 6 changes to 1 state, 6 probes",
+            routine.valid(&after(8, [Routine::TOGGLE, Routine::NOTHING].repeat(6))),
+        ),
+        (
+            "6 facts probed, 7 changes of 4 states, 7 probes",
+            routine.valid(&after(6, [Routine::STAY, Routine::NOTHING].repeat(7))),
+        ),
+        (
+            "6 changes to 16 states each, 12 probes",
+            routine.valid(&(0..6).flat_map(freeing).collect::<Vec<u8>>()),
+        ),
+        (
+            "7 changes to any state, 14 probes",
+            routine.valid(&(0..7).flat_map(forgetting).collect::<Vec<u8>>()),
+        ),
+        (
+            "7 branches of 4 atoms, 28 probes, a goal of 14 atoms",
+            routine.sheet(
+                balanced(&(0..7).map(decided).collect::<Vec<_>>()),
+                branching(7),
+            ),
+        ),
+        (
+            "8 facts probed, 9 probes, the last leaf of 256 fails",
+            routine.sheet(Epistemic::NotKnown(none), sequence(&after(8, nothing(9)))),
+        ),
+        (
+            "64 probes, the first history fails",
+            routine.sheet(
+                Epistemic::Known(Objective::Fact(0)),
+                sequence(&nothing(MAX_ACTION_NODES)),
+            ),
+        ),
+        (
+            "30 probes, stopped by the budget",
+            routine.valid(&nothing(30)),
+        ),
+        ("a random routine", random_routine(5000)),
+        ("sample 1, 1 fact", read(&SAMPLE_1).unwrap()),
+    ]
+}
+
+/// Of 40 random routines of 8 facts the one with the most histories up to a limit.
+fn random_routine(limit: u32) -> Sheet {
+    let mut random = Random::new(9);
+    let sheets = (0..40).map(|_| good(&mut random, &Size::LARGE));
+    let count = |sheet: &Sheet| match linked::verify(&encode(sheet), limit, &mut [0; MAX_TRACE]) {
+        Ok(Verdict::Valid { count } | Verdict::Invalid { count, .. }) => count,
+        _ => 0,
+    };
+    sheets.max_by_key(count).unwrap()
 }
 
 /// The largest sheet of a series that is accepted.
@@ -314,10 +610,7 @@ fn sheets() -> Vec<(String, Vec<u8>)> {
     let mut random = Random::new(8);
     let routines = (0..20).map(|_| encode(&good(&mut random, &Size::LARGE)));
     let mut sheets: Vec<(String, Vec<u8>)> = vec![
-        (
-            "sample 1".to_string(),
-            vec![0x11, 0x0c, 0x90, 0x88, 0x1c, 0x40, 0x88, 0x20, 0x00],
-        ),
+        ("sample 1".to_string(), SAMPLE_1.to_vec()),
         (
             "the longest of 20 random routines of 8 facts".to_string(),
             routines.max_by_key(Vec::len).unwrap(),

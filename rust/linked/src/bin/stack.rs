@@ -1,7 +1,8 @@
 //! Prints how many bytes of stack a call of each proved function takes, on the
 //! sheet that needs the most of those below: formulas of every mix of levels up
 //! to the depth limit and one beyond it, where the sheet is refused, in every
-//! place, and the longest programs, nested in every way.
+//! place, the longest programs, nested in every way, and the longest failing
+//! histories.
 //!
 //! A call runs on a stack of our own, painted before: what it takes is what is
 //! no longer painted, less what an empty call takes. x86-64 only, like the
@@ -9,11 +10,12 @@
 
 use std::arch::asm;
 
-use linked::{Tables, Words};
+use linked::{Tables, Verdict, Words, LINES};
 use recovery::encode::encode;
 use recovery::read::read;
 use recovery::sheet::{
     Action, Epistemic, Objective, Program, Sheet, MAX_ACTION_NODES, MAX_BRANCH_NODES, MAX_DEPTH,
+    MAX_TRACE,
 };
 
 /// The size of the painted stack, and how much of it must stay painted.
@@ -22,13 +24,27 @@ const UNTOUCHED: usize = 1 << 16;
 
 fn main() {
     let depths = [MAX_DEPTH, MAX_DEPTH + 1];
-    let sheets: Vec<(String, Sheet)> = depths.into_iter().flat_map(sheets).collect();
+    let mut sheets: Vec<(String, Sheet)> = depths.into_iter().flat_map(sheets).collect();
+    for action in 0..plain().actions.len() as u8 {
+        let program =
+            (0..MAX_ACTION_NODES).fold(Program::End, |rest, _| Program::act(action, rest));
+        let goal = Epistemic::Known(Objective::False);
+        let sheet = Sheet {
+            goal,
+            program,
+            ..plain()
+        };
+        sheets.push((format!("64 times action {action}, failing"), sheet));
+    }
     let mut tables = Tables::zeroed();
     let mut start: Words = [0; 4];
     let mut reading = Need::default();
     let mut preparing = Need::default();
     let mut stepping = Need::default();
     let mut settling = Need::default();
+    let mut verifying = Need::default();
+    let mut checking = Need::default();
+    let mut printing = Need::default();
     let mut refused = 0;
     for (name, sheet) in &sheets {
         let bytes = encode(sheet);
@@ -39,6 +55,23 @@ fn main() {
             answers[1] = linked::prepare(&bytes, &mut tables, &mut start)
         });
         assert_eq!(answers, [expected; 2], "{name}");
+        let mut memory = [0; MAX_TRACE];
+        let mut verdict = Err(0);
+        verifying.add(name, &mut || {
+            verdict = linked::verify(&bytes, u32::MAX, &mut memory)
+        });
+        let trace = match verdict {
+            Ok(Verdict::Invalid { length, .. }) => &memory[..1 + 2 * length],
+            _ => &memory,
+        };
+        let mut checked = Err(0);
+        checking.add(name, &mut || checked = linked::check(&bytes, trace));
+        let mut out = [0; LINES];
+        let mut length = 0;
+        printing.add(name, &mut || length = linked::print(&bytes, &mut out));
+        assert_eq!(verdict.err().unwrap_or(0), expected, "{name}");
+        assert_eq!(checked.err().unwrap_or(0), expected, "{name}");
+        assert!(length > 0, "{name}");
         if expected != 0 {
             refused += 1;
             continue;
@@ -60,6 +93,9 @@ fn main() {
     preparing.print("recovery_prepare");
     stepping.print("recovery_step");
     settling.print("recovery_settle");
+    verifying.print("recovery_verify");
+    checking.print("recovery_check");
+    printing.print("recovery_print");
 }
 
 /// The most stack that a call took, and with which sheet.

@@ -1,0 +1,371 @@
+//! Sheets of all kinds, and what the Rust implementation says of them; no single
+//! test file uses all of it.
+#![allow(dead_code)]
+
+use std::collections::BTreeSet;
+
+use linked::{plain, Tables, Verdict};
+use recovery::edges::edges;
+use recovery::encode::encode;
+use recovery::print::lines;
+use recovery::random::{damaged, good, Random, Size};
+use recovery::read::read;
+use recovery::sheet::{Action, Epistemic, Objective, Program, Sheet, MAX_BYTES, MAX_TRACE};
+use recovery::verify::{verify, Answer};
+
+/// The budget of `planverify`.
+pub const BUDGET: u32 = 1_000_000;
+
+/// A budget with which the Rust verifier takes little time on any sheet.
+pub const FEW: u32 = 300;
+
+/// A sheet's bytes, its data if it is accepted, and the Rust verifier's answer
+/// with the budget `FEW`.
+pub struct Case {
+    pub bytes: Vec<u8>,
+    pub sheet: Option<Sheet>,
+    pub answer: Answer,
+}
+
+impl Case {
+    pub fn new(bytes: Vec<u8>) -> Case {
+        Case {
+            sheet: read(&bytes).ok(),
+            answer: verify(&bytes, FEW, &mut [0; MAX_TRACE]),
+            bytes,
+        }
+    }
+
+    /// The Rust verifier's answer, by the sheet's tree; over plain tables where
+    /// there are so many histories that the tree would take long.
+    pub fn verify(&self, budget: u32, memory: &mut [u8]) -> Answer {
+        match (self.answer, &self.sheet) {
+            (Answer::Stopped { .. }, Some(sheet)) if budget > FEW && memory.len() >= MAX_TRACE => {
+                let mut tables = Tables::zeroed();
+                let start = plain::prepare(sheet, &mut tables);
+                answer(plain::verify(&tables, &start, budget, memory))
+            }
+            _ => verify(&self.bytes, budget, memory),
+        }
+    }
+
+    /// What `planverify` has to print.
+    pub fn lines(&self) -> Vec<u8> {
+        let mut memory = [0; MAX_TRACE];
+        let answer = self.verify(BUDGET, &mut memory);
+        lines(&answer, &memory)
+    }
+}
+
+pub fn answer(verdict: Verdict) -> Answer {
+    match verdict {
+        Verdict::Valid { count } => Answer::Valid { count },
+        Verdict::Invalid { count, length } => Answer::Invalid { count, length },
+        Verdict::Stopped { budget } => Answer::Stopped { budget },
+    }
+}
+
+pub fn bytes(random: &mut Random, length: usize) -> Vec<u8> {
+    (0..length).map(|_| random.bits() as u8).collect()
+}
+
+/// Different sheets: at the limits, random ones of every size, damaged and cut
+/// ones, random bytes, and those of `choices`, `many` and `longest`.
+pub fn sheets(seed: u64) -> BTreeSet<Vec<u8>> {
+    let mut random = Random::new(seed);
+    let mut sheets: BTreeSet<Vec<u8>> = edges().into_iter().collect();
+    for (count, size) in [(2000, Size::SMALL), (500, Size::MEDIUM), (25, Size::LARGE)] {
+        sheets.extend((0..count).map(|_| encode(&good(&mut random, &size))));
+    }
+    for (count, size) in [(2000, Size::SMALL), (300, Size::MEDIUM), (10, Size::LARGE)] {
+        sheets.extend((0..count).map(|_| damaged(&mut random, &size)));
+    }
+    for _ in 0..30 {
+        let sheet = encode(&good(&mut random, &Size::SMALL));
+        sheets.extend((0..sheet.len()).map(|length| sheet[..length].to_vec()));
+    }
+    for _ in 0..500 {
+        let length = random.between(0, 40);
+        let mut sheet = bytes(&mut random, length);
+        if let Some(first) = sheet.first_mut() {
+            *first = 0x10 + *first % 10;
+        }
+        sheets.insert(sheet);
+    }
+    sheets.extend((0..500).map(|_| encode(&choices(&mut random))));
+    sheets.extend((0..120).map(|_| encode(&many(&mut random))));
+    sheets.extend(longest());
+    sheets
+}
+
+/// A failing routine in which changes leave facts free and probes tell them
+/// later, so that the least next state is often a wrong one.
+pub fn choices(random: &mut Random) -> Sheet {
+    let most = if random.chance(1, 8) { 8 } else { 4 };
+    let facts = random.between(1, most) as u8;
+    let fact = |random: &mut Random| Objective::Fact(random.below(facts.into()) as u8);
+    let mut actions = Vec::new();
+    for _ in 0..3 {
+        let mut theory = Objective::True;
+        for number in 0..facts {
+            let new = Objective::New(number);
+            match random.below(6) {
+                0 => theory = theory.and(new.iff(fact(random))),
+                1 | 2 => theory = theory.and(new.iff(Objective::Fact(number))),
+                _ => {}
+            }
+        }
+        actions.push(Action::Change(theory));
+    }
+    for _ in 0..3 {
+        let told = match random.below(3) {
+            0 => fact(random).and(fact(random)),
+            1 => fact(random).negate(),
+            _ => fact(random),
+        };
+        actions.push(Action::Probe(vec![told, Objective::True]));
+    }
+    let length = random.between(2, 8);
+    let numbers: Vec<u8> = (0..length)
+        .map(|_| random.below(actions.len()) as u8)
+        .collect();
+    Sheet {
+        facts,
+        actions,
+        goal: Epistemic::NotKnown(Objective::True),
+        program: sequence(&numbers),
+        ..plain_sheet()
+    }
+}
+
+/// A routine with hundreds to millions of histories: overlapping probes, changes
+/// and branches, and a goal that fails seldom.
+pub fn many(random: &mut Random) -> Sheet {
+    let facts = random.between(3, 8) as u8;
+    let fact = |random: &mut Random| Objective::Fact(random.below(facts.into()) as u8);
+    let mut actions = Vec::new();
+    for _ in 0..3 {
+        let clauses = (0..facts).map(|number| {
+            let new = Objective::New(number);
+            match random.below(4) {
+                0 => Objective::True,
+                1 => new.iff(Objective::Fact(number).negate()),
+                _ => new.iff(Objective::Fact(number)),
+            }
+        });
+        actions.push(Action::Change(clauses.reduce(Objective::and).unwrap()));
+    }
+    for _ in 0..5 {
+        let first = fact(random).or(fact(random));
+        let second = fact(random).and(first.clone()).negate();
+        let mut replies = vec![first, second];
+        if random.chance(1, 2) {
+            replies.insert(random.between(0, 2), fact(random));
+        }
+        actions.push(Action::Probe(replies));
+    }
+    let mut program = Program::End;
+    for _ in 0..random.between(10, 18) {
+        let act = |random: &mut Random, rest| {
+            let action = match random.chance(1, 5) {
+                true => random.below(3),
+                false => random.between(3, 7),
+            };
+            Program::act(action as u8, rest)
+        };
+        program = match random.chance(1, 5) {
+            true => {
+                let condition = Epistemic::Known(fact(random)).or(Epistemic::NotKnown(
+                    fact(random).or(fact(random).negate().and(fact(random))),
+                ));
+                let then = act(random, Program::End);
+                Program::branch(condition, then, Program::End, program)
+            }
+            false => act(random, program),
+        };
+    }
+    let half = (0..facts).step_by(2).map(Objective::Fact);
+    let unlikely = half.reduce(Objective::and);
+    let goal = match random.chance(1, 2) {
+        true => Epistemic::NotKnown(unlikely.unwrap()),
+        false => Epistemic::Known(Objective::True),
+    };
+    Sheet {
+        facts,
+        actions,
+        goal,
+        program,
+        ..plain_sheet()
+    }
+}
+
+/// The longest sheet, accepted, and the longest trace, of a history that fails.
+fn longest() -> [Vec<u8>; 2] {
+    let sheet = encode(&Sheet {
+        start: wide(1362),
+        ..plain_sheet()
+    });
+    assert_eq!(sheet.len(), MAX_BYTES);
+    let trace = encode(&Sheet {
+        actions: vec![Action::Change(Objective::True)],
+        goal: Epistemic::Known(Objective::Fact(0)),
+        program: sequence(&[0; 64]),
+        ..plain_sheet()
+    });
+    [sheet, trace]
+}
+
+/// So many times "true", in a tree of few levels.
+fn wide(leaves: usize) -> Objective {
+    match leaves {
+        1 => Objective::True,
+        _ => wide(leaves / 2).and(wide(leaves - leaves / 2)),
+    }
+}
+
+/// One fact, nothing to do, and the goal reached.
+pub fn plain_sheet() -> Sheet {
+    Sheet {
+        edition: 1,
+        facts: 1,
+        actions: vec![],
+        start: Objective::True,
+        goal: Epistemic::Known(Objective::True),
+        program: Program::End,
+    }
+}
+
+/// The actions one after the other.
+pub fn sequence(actions: &[u8]) -> Program {
+    followed(actions, Program::End)
+}
+
+fn followed(actions: &[u8], rest: Program) -> Program {
+    actions
+        .iter()
+        .rev()
+        .fold(rest, |rest, &action| Program::act(action, rest))
+}
+
+/// How many replies the actions of a straight program may have, one after the
+/// other, so that it has exactly so many histories.
+fn reply_counts(mut count: u32) -> Vec<u8> {
+    let mut replies = Vec::new();
+    while count > 0 {
+        let most = (1..=8)
+            .rev()
+            .find(|&most| count.is_multiple_of(most))
+            .unwrap();
+        replies.push(most as u8);
+        count = count / most - 1;
+    }
+    replies
+}
+
+/// Action k is a change for 0, else a probe with k + 1 replies, all of them true.
+fn telling_nothing() -> Vec<Action> {
+    let mut actions = vec![Action::Change(Objective::New(0).iff(Objective::Fact(0)))];
+    actions.extend((2..=8).map(|replies| Action::Probe(vec![Objective::True; replies])));
+    actions
+}
+
+fn numbers(replies: &[u8]) -> Vec<u8> {
+    replies.iter().map(|replies| replies - 1).collect()
+}
+
+/// A straight program of probes with these numbers of replies; 1 is a change.
+pub fn straight(replies: &[u8]) -> Sheet {
+    Sheet {
+        actions: telling_nothing(),
+        program: sequence(&numbers(replies)),
+        ..plain_sheet()
+    }
+}
+
+/// A valid routine with so many histories.
+pub fn counted(count: u32) -> Sheet {
+    straight(&reply_counts(count))
+}
+
+/// The same by a branch: a probe of the fact, so many histories on the one side,
+/// so many on the other.
+pub fn branched(then: u32, otherwise: u32) -> Sheet {
+    let mut sheet = counted(then);
+    let fact = Objective::Fact(0);
+    let probe = sheet.actions.len() as u8;
+    sheet
+        .actions
+        .push(Action::Probe(vec![fact.clone(), fact.clone().negate()]));
+    let branch = Program::branch(
+        Epistemic::Known(fact),
+        sheet.program,
+        sequence(&numbers(&reply_counts(otherwise))),
+        Program::End,
+    );
+    sheet.program = Program::act(probe, branch);
+    sheet
+}
+
+/// A routine with so many histories, of which the last alone fails: where every
+/// probe gave its last reply, which alone tells the probe's fact.
+pub fn last_fails(count: u32) -> Sheet {
+    let replies = reply_counts(count);
+    let mut sheet = plain_sheet();
+    let mut goal = Epistemic::Known(Objective::False);
+    for (number, &most) in replies.iter().enumerate() {
+        let mut told = vec![Objective::True; usize::from(most)];
+        if most > 1 {
+            let fact = Objective::Fact(sheet.facts - 1).negate();
+            sheet.facts += 1;
+            goal = Epistemic::NotKnown(fact.clone()).or(goal);
+            told[usize::from(most) - 1] = fact;
+        }
+        sheet.actions.push(Action::Probe(told));
+        assert_eq!(sheet.actions.len(), number + 1);
+    }
+    sheet.facts -= 1;
+    sheet.goal = goal;
+    let numbers: Vec<u8> = (0..replies.len() as u8).collect();
+    sheet.program = sequence(&numbers);
+    sheet
+}
+
+/// Sheets with around a million histories, with their numbers, and whether one fails.
+pub fn around_a_million() -> Vec<(Vec<u8>, u32, bool)> {
+    let mut sheets = Vec::new();
+    for count in [999_998, 999_999, 1_000_000, 1_000_001, 1_000_002] {
+        sheets.push((counted(count), count, false));
+    }
+    for count in [999_999, 1_000_000, 1_000_001] {
+        // A tail of changes on the other side of a branch, and a large number there.
+        for otherwise in [0, 1, 5, 262_142] {
+            sheets.push((branched(count - 2 - otherwise, otherwise), count, false));
+        }
+        sheets.push((last_fails(count), count, true));
+    }
+    let twos = |count: usize| vec![2; count];
+    for replies in [
+        twos(18),
+        twos(19),
+        [&twos(18)[..], &[1]].concat(),
+        [&twos(17)[..], &[3]].concat(),
+        [&[3], &twos(17)[..]].concat(),
+        vec![3; 12],
+        [&[3; 12][..], &[1]].concat(),
+        [&[1, 1, 1], &twos(18)[..], &[1]].concat(),
+        vec![8; 6],
+        vec![8; 7],
+        // Above 32 bits; the number is cut there.
+        twos(64),
+        vec![8; 64],
+    ] {
+        let count = replies.iter().rev().fold(0u32, |count, &most| {
+            count.saturating_add(1).saturating_mul(most.into())
+        });
+        sheets.push((straight(&replies), count, false));
+    }
+    sheets
+        .into_iter()
+        .map(|(sheet, count, fails)| (encode(&sheet), count, fails))
+        .collect()
+}

@@ -1,0 +1,403 @@
+//! The proved verifier, trace checker and printed lines against the Rust
+//! implementation.
+
+mod common;
+
+use std::collections::BTreeSet;
+use std::sync::LazyLock;
+
+use common::{around_a_million, bytes, sheets, Case, BUDGET, FEW};
+use linked::{check, plain, print, verify, verify_words, Tables, Verdict, LINES};
+use recovery::check::Checked;
+use recovery::execute::Execution;
+use recovery::print::lines;
+use recovery::random::Random;
+use recovery::refusal::Refusal;
+use recovery::sheet::{Sheet, MAX_TRACE};
+use recovery::states::{states, State};
+use recovery::step::{effect, replies, start_states, step};
+use recovery::verify::Answer;
+
+static CASES: LazyLock<Vec<Case>> =
+    LazyLock::new(|| sheets(41).into_iter().map(Case::new).collect());
+
+/// The accepted ones.
+fn accepted() -> impl Iterator<Item = (&'static Case, &'static Sheet)> {
+    CASES
+        .iter()
+        .filter_map(|case| case.sheet.as_ref().map(|sheet| (case, sheet)))
+}
+
+/// The invalid ones, with the least failing trace.
+fn invalid() -> impl Iterator<Item = (&'static Case, &'static Sheet, Vec<u8>)> {
+    accepted().filter_map(|(case, sheet)| {
+        let mut memory = [0; MAX_TRACE];
+        match case.verify(FEW, &mut memory) {
+            Answer::Invalid { length, .. } => Some((case, sheet, memory[..1 + 2 * length].into())),
+            _ => None,
+        }
+    })
+}
+
+/// The three words of a verdict and the number 0, or the words that were there
+/// and the number of the refusal.
+fn numbers(answer: Answer, before: [u64; 3]) -> (u8, [u64; 3]) {
+    match answer {
+        Answer::Valid { count } => (0, [0, count.into(), 0]),
+        Answer::Invalid { count, length } => (0, [1, count.into(), length as u64]),
+        Answer::Stopped { budget } => (0, [2, budget.into(), 0]),
+        Answer::Refused(refusal) => (refusal.number(), before),
+    }
+}
+
+/// Compares the answers and every byte of the memory; gives the answer.
+fn compare(case: &Case, budget: u32, length: usize, random: &mut Random) -> Answer {
+    let mut expected = bytes(random, length);
+    let mut memory = expected.clone();
+    let words = [0; 3].map(|_: u64| random.bits());
+    let mut verdict = words;
+    let answer = case.verify(budget, &mut expected);
+    let number = verify_words(&case.bytes, budget, &mut memory, &mut verdict);
+    let sheet = &case.bytes;
+    assert_eq!(
+        (number, verdict),
+        numbers(answer, words),
+        "budget {budget}, sheet {sheet:02x?}"
+    );
+    assert_eq!(memory, expected, "budget {budget}, sheet {sheet:02x?}");
+    answer
+}
+
+fn budgets(case: &Case) -> BTreeSet<u32> {
+    match case.verify(BUDGET, &mut [0; MAX_TRACE]) {
+        Answer::Valid { count } | Answer::Invalid { count, .. } => {
+            let below = count.saturating_sub(1);
+            BTreeSet::from([0, 1, below, count, count + 1, u32::MAX])
+        }
+        Answer::Stopped { .. } => BTreeSet::from([0, 1, FEW, BUDGET - 1, BUDGET]),
+        Answer::Refused(_) => BTreeSet::from([0, u32::MAX]),
+    }
+}
+
+#[test]
+fn verdicts_and_memory() {
+    let mut random = Random::new(42);
+    let [mut valid, mut invalid, mut stopped] = [0; 3];
+    let mut refused = [0; 16];
+    let mut facts = BTreeSet::new();
+    let mut many = 0;
+    for case in CASES.iter() {
+        many += usize::from(matches!(case.answer, Answer::Stopped { .. }));
+        for budget in budgets(case) {
+            let length = *random.pick(&[129, 130, 200]);
+            match compare(case, budget, length, &mut random) {
+                Answer::Valid { .. } => valid += 1,
+                Answer::Invalid { .. } => invalid += 1,
+                Answer::Stopped { .. } => stopped += 1,
+                Answer::Refused(refusal) => refused[usize::from(refusal.number())] += 1,
+            }
+        }
+        facts.extend(case.sheet.as_ref().map(|sheet| sheet.facts));
+    }
+    assert!(CASES.len() >= 5000, "{} sheets", CASES.len());
+    let counts = [valid, invalid, stopped];
+    assert!(counts.iter().all(|&count| count >= 2000), "{counts:?}");
+    assert!(refused[1..].iter().all(|&count| count > 0), "{refused:?}");
+    assert!(facts.iter().copied().eq(1..=8), "{facts:?}");
+    assert!(many >= 50, "{many} sheets have more than {FEW} histories");
+}
+
+#[test]
+fn short_memory_comes_before_all_else() {
+    let mut random = Random::new(43);
+    for case in CASES.iter() {
+        for length in [0, 1, random.between(2, 127), 128] {
+            let budget = *random.pick(&[0, 1, BUDGET, u32::MAX]);
+            let answer = compare(case, budget, length, &mut random);
+            assert_eq!(answer, Answer::Refused(Refusal::TraceMemory));
+        }
+    }
+}
+
+#[test]
+fn a_verdict_in_words() {
+    let mut seen = BTreeSet::new();
+    for case in CASES.iter().step_by(7) {
+        let expected = match case.answer {
+            Answer::Valid { count } => Ok(Verdict::Valid { count }),
+            Answer::Invalid { count, length } => Ok(Verdict::Invalid { count, length }),
+            Answer::Stopped { budget } => Ok(Verdict::Stopped { budget }),
+            Answer::Refused(refusal) => Err(refusal.number()),
+        };
+        assert_eq!(verify(&case.bytes, FEW, &mut [0; MAX_TRACE]), expected);
+        seen.insert(expected.map_or(3, |verdict| match verdict {
+            Verdict::Valid { .. } => 0,
+            Verdict::Invalid { .. } => 1,
+            Verdict::Stopped { .. } => 2,
+        }));
+    }
+    assert_eq!(seen.len(), 4);
+}
+
+/// The Rust verifier with the same tables, which the benchmark times.
+#[test]
+fn verdicts_over_plain_tables() {
+    let mut random = Random::new(44);
+    let mut tables = Tables::zeroed();
+    for (case, sheet) in accepted() {
+        let start = plain::prepare(sheet, &mut tables);
+        let mut expected = bytes(&mut random, MAX_TRACE);
+        let mut memory = expected.clone();
+        let verdict = plain::verify(&tables, &start, FEW, &mut memory);
+        let answer = recovery::verify::verify(&case.bytes, FEW, &mut expected);
+        assert_eq!(common::answer(verdict), answer, "{:02x?}", case.bytes);
+        assert_eq!(memory, expected, "{:02x?}", case.bytes);
+    }
+}
+
+#[test]
+fn counts_around_a_million() {
+    let mut random = Random::new(45);
+    let mut below = 0;
+    let mut above = 0;
+    for (bytes, count, fails) in around_a_million() {
+        // By the sheet's tree, since the number of histories is what is looked at.
+        let case = Case {
+            answer: Answer::Valid { count },
+            ..Case::new(bytes)
+        };
+        for budget in [999_999, 1_000_000, 1_000_001] {
+            let answer = compare(&case, budget, MAX_TRACE, &mut random);
+            match answer {
+                Answer::Stopped { .. } => assert!(count > budget),
+                Answer::Valid { count: all } => assert_eq!((all, fails), (count, false)),
+                Answer::Invalid { count: all, .. } => assert_eq!((all, fails), (count, true)),
+                Answer::Refused(_) => panic!("{answer:?}"),
+            }
+            below += usize::from(count <= budget);
+            above += usize::from(count > budget);
+        }
+    }
+    assert!(below >= 20 && above >= 20, "{below} {above}");
+}
+
+/// The trace with this history that begins in a state and always goes on in the
+/// least next state; none if it comes to a state without one.
+fn greedy(sheet: &Sheet, trace: &[u8]) -> Option<Vec<u8>> {
+    let mut state = trace[0];
+    let mut shown = vec![state];
+    for &event in trace[1..].iter().step_by(2) {
+        let action = &sheet.actions[usize::from(event / 8)];
+        let before = state;
+        state = states(sheet).find(|&after| step(action, event % 8, before, after))?;
+        shown.extend([event, state]);
+    }
+    Some(shown)
+}
+
+#[test]
+fn least_traces_are_not_greedy() {
+    let (mut stuck, mut same) = (0, 0);
+    for (case, sheet, trace) in invalid() {
+        let mut memory = [0; MAX_TRACE];
+        assert!(verify(&case.bytes, u32::MAX, &mut memory).is_ok());
+        assert_eq!(memory[..trace.len()], trace, "{:02x?}", case.bytes);
+        match greedy(sheet, &trace) {
+            None => stuck += 1,
+            // What never gets stuck from the same start is the least.
+            Some(shown) => {
+                assert_eq!(shown, trace, "{:02x?}", case.bytes);
+                same += 1;
+            }
+        }
+    }
+    assert!(stuck >= 100, "{stuck} and {same}");
+    assert!(same >= 500, "{stuck} and {same}");
+}
+
+/// Compares the checkers, and gives their answer.
+fn checked(sheet: &[u8], trace: &[u8]) -> Checked {
+    let expected = recovery::check::check(sheet, trace);
+    let answer = match expected {
+        Checked::Yes => Ok(true),
+        Checked::No => Ok(false),
+        Checked::Refused(refusal) => Err(refusal.number()),
+    };
+    assert_eq!(
+        check(sheet, trace),
+        answer,
+        "trace {trace:02x?}, sheet {sheet:02x?}"
+    );
+    expected
+}
+
+/// Traces that differ little from this one, or are of another length.
+fn damaged_traces(random: &mut Random, trace: &[u8], most: usize) -> Vec<Vec<u8>> {
+    let mut traces = vec![vec![]];
+    let mut places: Vec<usize> = (0..trace.len()).collect();
+    while places.len() > most {
+        places.swap_remove(random.below(places.len()));
+    }
+    for &place in &places {
+        traces.push(trace[..place].to_vec());
+        let any = random.bits() as u8;
+        for byte in [trace[place] ^ 1, trace[place].wrapping_add(8), any, 255] {
+            let mut other = trace.to_vec();
+            other[place] = byte;
+            traces.push(other);
+        }
+    }
+    let last = trace[trace.len() - 1];
+    let event = trace[trace.len().saturating_sub(2)];
+    for more in [&[0][..], &[last], &[0, last], &[event, last]] {
+        traces.push([trace, more].concat());
+    }
+    for length in [MAX_TRACE - 1, MAX_TRACE, MAX_TRACE + 1, MAX_TRACE + 2, 1000] {
+        let mut longer = trace.to_vec();
+        while longer.len() < length {
+            longer.extend([event, last]);
+        }
+        longer.truncate(length);
+        traces.push(longer);
+    }
+    traces.retain(|other| other != trace);
+    traces
+}
+
+#[test]
+fn checked_traces_and_their_neighbours() {
+    let mut random = Random::new(46);
+    let (mut shown, mut yes, mut no) = (0, 0, 0);
+    let mut longest = 0;
+    for (case, sheet, trace) in invalid() {
+        assert_eq!(checked(&case.bytes, &trace), Checked::Yes);
+        shown += 1;
+        longest = longest.max(trace.len());
+        // Reading takes long where there are many facts.
+        let most = if sheet.facts <= 4 { MAX_TRACE } else { 3 };
+        for other in damaged_traces(&mut random, &trace, most) {
+            match checked(&case.bytes, &other) {
+                Checked::Yes => yes += 1,
+                Checked::No => no += 1,
+                Checked::Refused(_) => panic!("refused"),
+            }
+            if other.len() % 2 == 0 || other.len() > MAX_TRACE {
+                assert_eq!(check(&case.bytes, &other), Ok(false));
+            }
+        }
+    }
+    assert!(shown >= 1000, "{shown}");
+    assert!(yes >= 500 && no >= 20_000, "{yes} {no}");
+    assert_eq!(longest, MAX_TRACE);
+}
+
+/// The trace of a run that follows the routine to its end, and whether the goal fails there.
+fn random_run(random: &mut Random, sheet: &Sheet) -> (Vec<u8>, bool) {
+    let starts: Vec<State> = start_states(sheet).iter().collect();
+    let mut execution = Execution::new(sheet);
+    let mut state = *random.pick(&starts);
+    let mut trace = vec![state];
+    while let Some(number) = execution.next() {
+        let action = &sheet.actions[usize::from(number)];
+        let next: Vec<State> = states(sheet)
+            .filter(|&after| effect(action, state, after))
+            .collect();
+        state = *random.pick(&next);
+        let told: Vec<u8> = (0..action.reply_count())
+            .filter(|&reply| replies(action, reply, state))
+            .collect();
+        let reply = *random.pick(&told);
+        execution.take(reply).unwrap();
+        trace.extend([8 * number + reply, state]);
+    }
+    (trace, !execution.goal_holds())
+}
+
+#[test]
+fn any_failing_run_will_do() {
+    let mut random = Random::new(47);
+    let (mut least, mut other, mut reached) = (0, 0, 0);
+    for (case, sheet) in accepted() {
+        let mut memory = [0; MAX_TRACE];
+        let first = case.verify(FEW, &mut memory);
+        for _ in 0..3 {
+            let (trace, fails) = random_run(&mut random, sheet);
+            let expected = if fails { Checked::Yes } else { Checked::No };
+            assert_eq!(checked(&case.bytes, &trace), expected);
+            match first {
+                _ if !fails => reached += 1,
+                Answer::Invalid { length, .. } if memory[..1 + 2 * length] == trace => least += 1,
+                _ => other += 1,
+            }
+        }
+    }
+    assert!(least >= 100, "{least} {other} {reached}");
+    assert!(other >= 1000, "{least} {other} {reached}");
+    assert!(reached >= 1000, "{least} {other} {reached}");
+}
+
+#[test]
+fn a_refused_sheet_comes_before_its_trace() {
+    let mut random = Random::new(48);
+    let mut refused = [0; 16];
+    for case in CASES.iter().filter(|case| case.sheet.is_none()) {
+        let length = *random.pick(&[0, 1, 2, 3, 128, 129, 130, 131, 1000]);
+        let trace = bytes(&mut random, length);
+        match checked(&case.bytes, &trace) {
+            Checked::Refused(refusal) => refused[usize::from(refusal.number())] += 1,
+            answer => panic!("{answer:?}"),
+        }
+    }
+    assert!(refused[1..].iter().all(|&count| count > 0), "{refused:?}");
+}
+
+/// Compares the printed lines; the bytes behind them stay. Gives their first word.
+fn compare_print(bytes: &[u8], expected: &[u8], random: &mut Random) -> String {
+    let before: [u8; LINES] = [0; LINES].map(|_: u8| random.bits() as u8);
+    let mut out = before;
+    let length = print(bytes, &mut out);
+    let text = String::from_utf8_lossy;
+    assert_eq!(length, expected.len(), "sheet {bytes:02x?}");
+    assert_eq!(text(&out[..length]), text(expected), "sheet {bytes:02x?}");
+    assert_eq!(out[length..], before[length..], "sheet {bytes:02x?}");
+    let printed = text(expected).into_owned();
+    printed.split(' ').next().unwrap().to_string()
+}
+
+#[test]
+fn printed_lines() {
+    let mut random = Random::new(49);
+    let mut counts = std::collections::BTreeMap::new();
+    for case in CASES.iter() {
+        let word = compare_print(&case.bytes, &case.lines(), &mut random);
+        *counts.entry(word).or_insert(0) += 1;
+    }
+    for (bytes, count, fails) in around_a_million() {
+        let case = Case::new(bytes);
+        let expected = case.lines();
+        let word = compare_print(&case.bytes, &expected, &mut random);
+        let line = String::from_utf8(expected).unwrap();
+        if count > BUDGET {
+            assert_eq!(line, "stopped 1000000\n");
+        } else if fails {
+            assert!(line.starts_with(&format!("invalid {count} ")));
+        } else {
+            assert_eq!(line, format!("valid {count}\n"));
+        }
+        *counts.entry(word).or_insert(0) += 1;
+    }
+    let words = ["invalid", "refused", "stopped", "valid"];
+    assert!(counts.keys().eq(words.iter()), "{counts:?}");
+    assert!(counts.values().all(|&count| count >= 10), "{counts:?}");
+    assert!(counts["invalid"] >= 1000 && counts["valid"] >= 1000);
+    // The longest: 64 steps.
+    let longest = CASES.iter().map(|case| case.lines().len()).max();
+    let most = lines(
+        &Answer::Invalid {
+            count: 64,
+            length: 64,
+        },
+        &[0; MAX_TRACE],
+    );
+    assert_eq!(longest, Some(most.len()));
+}
