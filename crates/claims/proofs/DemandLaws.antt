@@ -1,26 +1,24 @@
 -- The demands follow from the contracts. Assumes nothing.
-use Prim.Native.Nat.{ℕ, _+_, _*_, _≤_, _<_}
+use Prim.Native.Nat.{ℕ, _+_, _*_, _≤_}
 use mathlib.Core.Path.{_≡_, refl, sym, ap, subst, _∙_}
 use mathlib.Core.Logic.{_⊎_, inl, inr, ⊎-elim, _↔_}
 use mathlib.Core.List.{List, [], _∷_, _++_, List·Memᴰ}
-use mathlib.Core.Bool.{Bool, true, false}
+use mathlib.Core.Bool.{Bool, true}
 use native.Mathlib.Omega.{arith}
 use lib.ListN.{length, take, drop}
-use lib.Seq.{take-at}
 use Rattle.lists.specs.Lists.{every}
 use Rattle.states.specs.declared.States.{States}
 use Rattle.states.specs.Sets.{member, setOf, members}
 use Rattle.states.proofs.SetLaws.{members-mem, mem-members}
 use Rattle.reader.specs.Syntax.{Objective, known, Sheet}
-use Rattle.reader.specs.Truth.{isState, holds}
+use Rattle.reader.specs.Truth.{holds}
 use Rattle.reader.specs.Format.{Answer, accepted, refused, reading}
-use Rattle.reader.specs.declared.refusal.Refusal.{Refusal}
 use Rattle.reader.specs.declared.sheet.Answer.{Answer as Said}
 use Rattle.reader.specs.Answers.{numberOf, answerOf as readOf, withoutSheet}
 use Rattle.reader.proofs.SheetLaws.{accepted-shape}
 use Rattle.semantics.specs.Runs.{Entry, entry, History, extended, replies, IsRun, lastState, Known, Holds, holdsAfter}
-use Rattle.semantics.specs.Routine.{Policy, done, perform, routine, Follows, isFull, Following, Full, Failing}
-use Rattle.semantics.specs.Verdict.{Verdict as Meant, historyCount, trace, TraceBefore, valid, invalid, stopped, Outcome, outcome, written, Verified, verified}
+use Rattle.semantics.specs.Routine.{perform, routine, Follows, isFull}
+use Rattle.semantics.specs.Verdict.{Verdict as Meant, historyCount, valid, invalid, stopped, Outcome, outcome, written, Verified, verified}
 use Rattle.semantics.specs.Checker.{checkedFor, checked}
 use Rattle.semantics.specs.Replies.{leftAfter}
 use Rattle.semantics.specs.Progression.{possible, satisfies, startSet, setAfter}

@@ -1,5 +1,5 @@
 -- From the search and the least run over the tables of an accepted sheet to the verifier's answer and the trace memory. Assumes nothing.
-use Prim.Native.Nat.{ℕ, zero, suc, _+_, _*_, _/_, _%_, _≤_, _<_}
+use Prim.Native.Nat.{ℕ, _+_, _*_, _/_, _%_, _≤_, _<_}
 use mathlib.Core.Path.{_≡_, refl, ap, sym, subst, _∙_}
 use mathlib.Core.List.{List, [], _∷_, _++_, map, append-assoc, List·Memᴰ, List·Memᴰ·head}
 use mathlib.Core.Bool.{Bool, true, false}
@@ -11,13 +11,13 @@ use Rattle.lists.specs.Lists.{if_then_else_}
 use Rattle.lists.proofs.ListLaws.{append-past}
 use Rattle.states.specs.declared.States.{States}
 use Rattle.reader.specs.Syntax.{Sheet}
-use Rattle.reader.specs.Format.{Answer, accepted, refused, reading}
+use Rattle.reader.specs.Format.{accepted, reading}
 use Rattle.reader.specs.Answers.{numberOf}
 use Rattle.reader.specs.declared.refusal.Refusal.{Refusal}
 use Rattle.reader.proofs.SheetLaws.{accepted-shape}
-use Rattle.semantics.specs.Runs.{Entry, entry, History, IsRun}
+use Rattle.semantics.specs.Runs.{Entry, entry, History}
 use Rattle.semantics.specs.Routine.{Following, Full, Failing}
-use Rattle.semantics.specs.Verdict.{historyCount, failures, trace, valid, invalid, stopped, Outcome, leastRun, concluded, outcome, written, Verified, verified}
+use Rattle.semantics.specs.Verdict.{historyCount, failures, trace, stopped, Outcome, leastRun, concluded, outcome, written, Verified, verified}
 use Rattle.semantics.proofs.RunLaws.{run-occurs}
 use Rattle.semantics.proofs.VerdictLaws.{listed-failing}
 use Rattle.semantics.proofs.MemoryLaws.{verified-accepted, verified-refused}

@@ -1,23 +1,22 @@
 -- The least run over the tables of a sheet is the first of the runs with the history. Assumes nothing.
-use Prim.Native.Nat.{ℕ, _≤_, _<_, _^_}
+use Prim.Native.Nat.{ℕ, _≤_, _<_}
 use mathlib.Core.Path.{_≡_, refl, ap, sym, _∙_}
 use mathlib.Core.List.{List, [], _∷_, _++_, map, flatMap, headD, List·Memᴰ, List·Memᴰ·head}
-use mathlib.Core.Logic.{⊎-elim, inl, inr}
 use mathlib.Core.Bool.{Bool, true, false, _&&_, _||_}
 use native.Mathlib.Omega.{arith}
-use lib.Dec.{eqb, ltb}
+use lib.Dec.{ltb}
 use lib.ListN.{length, List·getD-eq-default}
-use borrow.Author.Tests.{eqb-true, eq-eqb, ltb-true, ltb-false}
-use Rattle.lists.specs.Lists.{if_then_else_, upFrom, below, exists, keep, nonempty}
-use Rattle.lists.proofs.ListLaws.{same-test, not-both, both-true, and-both, exists-mem, mem-exists, exists-keep, exists-same, keep-same, keep-mem, keep-within, upFrom-mem, mem-upFrom}
+use borrow.Author.Tests.{ltb-true, ltb-false}
+use Rattle.lists.specs.Lists.{if_then_else_, below, exists, keep, nonempty}
+use Rattle.lists.proofs.ListLaws.{same-test, not-both, both-true, and-both, exists-mem, mem-exists, exists-keep, keep-same, keep-mem, keep-within, upFrom-mem, mem-upFrom}
 use Rattle.states.specs.declared.States.{States}
 use Rattle.states.specs.Sets.{member, setOf, members, leastOf}
-use Rattle.states.proofs.SetLaws.{member-setOf, member-above, members-setOf, set-cong}
+use Rattle.states.proofs.SetLaws.{member-setOf, members-setOf}
 use Rattle.reader.specs.Syntax.{probe, replyCount, Sheet, actionOf}
 use Rattle.reader.specs.Truth.{isState, states, holds}
-use Rattle.reader.proofs.StateLaws.{state-below, listed-state, state-listed}
+use Rattle.reader.proofs.StateLaws.{listed-state, state-listed}
 use Rattle.reader.proofs.StageLaws.{space-states}
-use Rattle.semantics.specs.Runs.{Entry, entry, History, step, startStates, nextStates, runsFrom, runs, occurs}
+use Rattle.semantics.specs.Runs.{Entry, History, step, startStates, nextStates, runsFrom, runs, occurs}
 use Rattle.semantics.specs.Verdict.{leastRun}
 use Rattle.semantics.proofs.RunLaws.{Replied, occurs-run, run-replied}
 use Rattle.routine.specs.Tables.{sheetStart}

@@ -1,5 +1,5 @@
-pub mod SearchLaws
 pub mod PathLaws
-pub mod LeastLaws
+pub mod SearchLaws
 pub mod WayLaws
+pub mod LeastLaws
 pub mod AnswerLaws

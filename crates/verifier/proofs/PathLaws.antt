@@ -48,9 +48,24 @@ unfolding Inside
 node-inside p node action e i = let j : Inside (Place.Act node action) = subst Inside e i in j .0
 
 module _ (heads nodes sets : List ℕ) (budget : ℕ) where
+  -- One reply, by whether some state is possible after it.
+  pub visit-by : (onward : States → ℕ → Found) (set : States) (action r c : ℕ) (some : Bool) → nonempty (members (stepped heads sets set action r)) ≡ some
+      → visit heads nodes sets budget onward set action r c
+      ≡ (if some then (if eqb c budget then over else behind (entry action r) (onward (stepped heads sets set action r) (c + 1))) else passed c)
+  unfolding visit
+  visit-by onward set action r c some e =
+      ap (λ (b : Bool). if b then (if eqb c budget then over else behind (entry action r) (onward (stepped heads sets set action r) (c + 1))) else passed c) e
+
   -- The replies of an action from r on, m being their number, where `onward` searches behind each.
   unfoldable pub repliesFrom : (onward : States → ℕ → Found) → States → (action m r c : ℕ) → Found
   repliesFrom onward set action m r c = eachReply (visit heads nodes sets budget onward set action) (upFrom r (m - r)) c
+
+  pub replies-all : (onward : States → ℕ → Found) (set : States) (action m c : ℕ)
+      → repliesFrom onward set action m 0 c ≡ eachReply (visit heads nodes sets budget onward set action) (below m) c
+  unfolding repliesFrom
+  replies-all onward set action m c =
+      let e : m - 0 ≡ m = omega arith in
+      ap (λ (k : ℕ). eachReply (visit heads nodes sets budget onward set action) (upFrom 0 k) c) e
 
   module _ (onward : States → ℕ → Found) (set : States) (action m r c : ℕ) where
     pub replies-end : m ≤ r → repliesFrom onward set action m r c ≡ passed c
@@ -74,24 +89,24 @@ module _ (heads nodes sets : List ℕ) (budget : ℕ) where
       abbrev by : (s d : Bool) → Found
       by s d = if s then (if d then over else behind (entry action r) (onward next (c + 1))) else passed c
 
-      visit-by : (s d : Bool) → not none ≡ s → eqb c budget ≡ d → visit heads nodes sets budget onward set action r c ≡ by s d
-      unfolding visit
-      visit-by s d e k =
-          ap (λ (n : States). if nonempty (members n) then (if eqb c budget then over else behind (entry action r) (onward n (c + 1))) else passed c) (sym here)
-          ∙ ap (λ (x : Bool). by x (eqb c budget)) (some s e) ∙ ap (λ (x : Bool). by s x) k
+      visited : (s d : Bool) → not none ≡ s → eqb c budget ≡ d → visit heads nodes sets budget onward set action r c ≡ by s d
+      visited s d e k =
+          visit-by onward set action r c s (ap (λ (u : States). nonempty (members u)) (sym here) ∙ some s e)
+          ∙ ap (λ (u : States). if s then (if eqb c budget then over else behind (entry action r) (onward u (c + 1))) else passed c) (sym here)
+          ∙ ap (by s) k
 
       pub reply-skip : not none ≡ false → repliesFrom onward set action m r c ≡ repliesFrom onward set action m (r + 1) c
       unfolding andThen if_then_else_
-      reply-skip e = reply-one h ∙ ap (λ (x : Found). andThen x (repliesFrom onward set action m (r + 1))) (visit-by false (eqb c budget) e refl)
+      reply-skip e = reply-one h ∙ ap (λ (x : Found). andThen x (repliesFrom onward set action m (r + 1))) (visited false (eqb c budget) e refl)
 
       pub reply-over : not none ≡ true → c ≡ budget → repliesFrom onward set action m r c ≡ over
       unfolding andThen if_then_else_
-      reply-over e k = reply-one h ∙ ap (λ (x : Found). andThen x (repliesFrom onward set action m (r + 1))) (visit-by true true e (eq-eqb c budget k))
+      reply-over e k = reply-one h ∙ ap (λ (x : Found). andThen x (repliesFrom onward set action m (r + 1))) (visited true true e (eq-eqb c budget k))
 
       pub reply-deeper : not none ≡ true → (c ≡ budget → ⊥)
           → repliesFrom onward set action m r c ≡ andThen (behind (entry action r) (onward next (c + 1))) (repliesFrom onward set action m (r + 1))
       unfolding if_then_else_
-      reply-deeper e k = reply-one h ∙ ap (λ (x : Found). andThen x (repliesFrom onward set action m (r + 1))) (visit-by true false e (ne-eqb c budget k))
+      reply-deeper e k = reply-one h ∙ ap (λ (x : Found). andThen x (repliesFrom onward set action m (r + 1))) (visited true false e (ne-eqb c budget k))
 
   -- The search from a node on, by where the program settles.
   pub searched-passed : (left at : ℕ) (set : States) (c : ℕ) → settled nodes sets set at ≡ Place.End true → searched heads nodes sets budget left at set c ≡ passed c

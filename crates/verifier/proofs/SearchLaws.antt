@@ -1,14 +1,14 @@
 -- The search over the tables of an accepted sheet finds what the histories of runs that follow the routine say. Assumes nothing.
-use Prim.Native.Nat.{ℕ, zero, suc, _+_, _≤_, _<_}
+use Prim.Native.Nat.{ℕ, zero, suc, _+_, _≤_}
 use mathlib.Core.Path.{_≡_, refl, ap, sym, subst, _∙_}
 use mathlib.Core.List.{List, [], _∷_, _++_, flatMap, append-assoc, append-nil, List·Memᴰ, List·Memᴰ·head, List·Memᴰ·tail}
-use mathlib.Core.Logic.{_⊎_, inl, inr, ⊎-elim}
+use mathlib.Core.Logic.{_⊎_, ⊎-elim}
 use mathlib.Core.Bool.{Bool, true, false, not, _&&_}
 use native.Mathlib.Omega.{arith}
 use lib.Dec.{eqb, ltb}
 use lib.ListN.{length, length-append}
 use borrow.Author.Tests.{eqb-true, eqb-false, le-ltb, lt-ltb}
-use Rattle.lists.specs.Lists.{if_then_else_, upFrom, below, keep, upTo, nonempty, Sorted, Before}
+use Rattle.lists.specs.Lists.{if_then_else_, below, keep, upTo, nonempty, Sorted, Before}
 use Rattle.lists.proofs.OrderLaws.{upTo-mem}
 use Rattle.states.specs.declared.States.{States}
 use Rattle.states.specs.Sets.{members}
@@ -27,7 +27,8 @@ use Rattle.routine.proofs.TableLaws.{Tabled}
 use Rattle.progression.specs.declared.place.Place.{Place}
 use Rattle.progression.specs.Machine.{settled, stepped}
 use Rattle.progression.proofs.RoutineLaws.{Reached, AtAction, AtEnd, start-reached, reached-place, reached-occurs, reached-few}
-use Rattle.verifier.specs.Search.{Found, passed, failed, over, behind, andThen, eachReply, atPlace, visit, searched}
+use Rattle.verifier.specs.Search.{Found, passed, failed, over, behind, andThen, eachReply, visit, searched}
+use Rattle.verifier.proofs.PathLaws.{visit-by, replies-all, searched-passed, searched-failed, searched-act}
 
 -- A found history behind a whole one.
 unfoldable past : History → Found → Found
@@ -62,30 +63,6 @@ unfolding andThen
 then-same (passed n) f g e = e n
 then-same (failed n h) f g e = refl
 then-same over f g e = refl
-
--- One reply, by whether some state is possible after it; and a place, by where the program settles.
-module _ (heads nodes sets : List ℕ) (budget : ℕ) where
-  visit-by : (onward : States → ℕ → Found) (set : States) (a r c : ℕ) (b : Bool) → nonempty (members (stepped heads sets set a r)) ≡ b
-      → visit heads nodes sets budget onward set a r c ≡ (if b then (if eqb c budget then over else behind (entry a r) (onward (stepped heads sets set a r) (c + 1))) else passed c)
-  unfolding visit
-  visit-by onward set a r c b e =
-      ap (λ (x : Bool). if x then (if eqb c budget then over else behind (entry a r) (onward (stepped heads sets set a r) (c + 1))) else passed c) e
-
-  abbrev repliesFrom : (left node : ℕ) → States → (action : ℕ) → (count c : ℕ) → Found
-  repliesFrom left node set action count c = eachReply (visit heads nodes sets budget (searched heads nodes sets budget left (node + 1)) set action) (below count) c
-
-  searched-none : (at : ℕ) (set : States) (c : ℕ) → searched heads nodes sets budget zero at set c ≡ atPlace (settled nodes sets set at) (λ node action. over) c
-  unfolding searched
-  searched-none at set c = refl
-
-  searched-more : (left at : ℕ) (set : States) (c : ℕ)
-      → searched heads nodes sets budget (suc left) at set c ≡ atPlace (settled nodes sets set at) (λ node action. repliesFrom left node set action (headAt heads action .count) c) c
-  unfolding searched
-  searched-more left at set c = refl
-
-place-act : (node action : ℕ) (acts : ℕ → ℕ → Found) (c : ℕ) → atPlace (Place.Act node action) acts c ≡ acts node action
-unfolding atPlace
-place-act node action acts c = refl
 
 -- What is found in a count and the histories that fail: none, or the first.
 unfoldable pub conclusion : (c : ℕ) → List History → Found
@@ -202,17 +179,18 @@ module _ (sheet : Sheet) (budget : ℕ) where
 
     module _ (h : History) (at : ℕ) (set : States) (reached : Reached sheet heads nodes sets h at set) where
       -- At the end.
-      ends : (x : AtEnd sheet heads nodes sets h at set) (acts : ℕ → ℕ → Found) (c : ℕ)
-          → past h (atPlace (settled nodes sets set at) acts c) ≡ enter (historiesFrom sheet (leftAfter (routine sheet) (replies h)) h) c
-      unfolding historiesFrom enter scan past atPlace isDone if_then_else_
-      ends x acts c =
-          let f = fails-left h (leftAfter (routine sheet) (replies h)) (full-left (routine sheet) h (reached .follows)) ∙ ap (λ (p : Policy). isDone p && not (holdsAfter sheet h (sheet .goal))) (x .nothing) in
-          ap (λ (p : Place). past h (atPlace p acts c)) (x .settles) ∙ go (holdsAfter sheet h (sheet .goal)) (fails sheet h) f
-          ∙ sym (ap (λ (p : Policy). enter (historiesFrom sheet p h) c) (x .nothing))
+      ends : AtEnd sheet heads nodes sets h at set → (left c : ℕ)
+          → past h (searched heads nodes sets budget left at set c) ≡ enter (historiesFrom sheet (leftAfter (routine sheet) (replies h)) h) c
+      unfolding historiesFrom enter scan past isDone if_then_else_
+      ends x left c =
+          let f = fails-left h (leftAfter (routine sheet) (replies h)) (full-left (routine sheet) h (reached .follows))
+          ∙ ap (λ (p : Policy). isDone p && not (holdsAfter sheet h (sheet .goal))) (x .nothing) in
+          go (holdsAfter sheet h (sheet .goal)) (x .settles) (fails sheet h) f ∙ sym (ap (λ (p : Policy). enter (historiesFrom sheet p h) c) (x .nothing))
         where
-          go : (b f : Bool) → f ≡ not b → past h (atPlace (Place.End b) acts c) ≡ (if f then failed c h else passed c)
-          go true f e = rw e
-          go false f e = rw e (ap (failed c) (append-nil h))
+          go : (b : Bool) → settled nodes sets set at ≡ Place.End b → (f : Bool) → f ≡ not b → past h (searched heads nodes sets budget left at set c) ≡ (if f then failed c h else passed c)
+          go true e f k = ap (past h) (searched-passed heads nodes sets budget left at set c e) ∙ sym (ap (λ (d : Bool). if d then failed c h else passed c) k)
+          go false e f k =
+              ap (past h) (searched-failed heads nodes sets budget left at set c e) ∙ ap (failed c) (append-nil h) ∙ sym (ap (λ (d : Bool). if d then failed c h else passed c) k)
 
       -- At an action, of which each reply is searched.
       module _ (x : AtAction sheet heads nodes sets h at set) (left : ℕ) (room : length h + suc left ≡ 64) (deeper : Searches left) where
@@ -278,26 +256,21 @@ module _ (sheet : Sheet) (budget : ℕ) where
 
         acts : (c : ℕ) → past h (searched heads nodes sets budget (suc left) at set c) ≡ enter (historiesFrom sheet (leftAfter (routine sheet) (replies h)) h) c
         acts c =
-            let m : headAt heads a .count ≡ replyCount (actionOf sheet a) = ap (λ (y : Head). y .count) (tabled .head-is a (x .known-action)) in
-            let replying : (ℕ → ℕ → Found) = λ node action. repliesFrom heads nodes sets budget left node set action (headAt heads action .count) c in
-            ap (past h) (searched-more heads nodes sets budget left at set c ∙ ap (λ (p : Place). atPlace p replying c) (x .settles) ∙ place-act (x .place) a replying c
-            ∙ ap (λ (k : ℕ). repliesFrom heads nodes sets budget left (x .place) set a k c) m)
-            ∙ all-replies (below (replyCount (actionOf sheet a))) c ∙ sym (enter-action c)
+            let m = replyCount (actionOf sheet a) in
+            let count : m ≡ headAt heads a .count = sym (ap (λ (y : Head). y .count) (tabled .head-is a (x .known-action))) in
+            ap (past h) (searched-act heads nodes sets budget (suc left) at set c (x .place) a (x .settles) left m refl count
+            ∙ replies-all heads nodes sets budget (searched heads nodes sets budget left (x .place + 1)) set a m c)
+            ∙ all-replies (below m) c ∙ sym (enter-action c)
 
     searches : (left : ℕ) → Searches left
-    searches zero h at set reached room c =
-        ⊎-elim deep (λ x. ap (past h) (searched-none heads nodes sets budget at set c) ∙ ends h at set reached x (λ node action. over) c)
-        (reached-place sheet heads nodes sets bytes read tabled h at set reached)
+    searches zero h at set reached room c = ⊎-elim deep (λ x. ends h at set reached x zero c) (reached-place sheet heads nodes sets bytes read tabled h at set reached)
       where
         deep : AtAction sheet heads nodes sets h at set → past h (searched heads nodes sets budget zero at set c) ≡ enter (historiesFrom sheet (leftAfter (routine sheet) (replies h)) h) c
         deep x =
             let l = reached-few sheet heads nodes sets bytes read tabled (extended h (x .action) 0) (x .place + 1) (stepped heads sets set (x .action) 0) (x .onward 0) in
             absurd (omega (arith, l, room, length-append h (entry (x .action) 0 ∷ [])))
     searches (suc left) h at set reached room c =
-        ⊎-elim (λ x. acts h at set reached x left room (searches left) c)
-        (λ x. ap (past h) (searched-more heads nodes sets budget left at set c)
-        ∙ ends h at set reached x (λ node action. repliesFrom heads nodes sets budget left node set action (headAt heads action .count) c) c)
-        (reached-place sheet heads nodes sets bytes read tabled h at set reached)
+        ⊎-elim (λ x. acts h at set reached x left room (searches left) c) (λ x. ends h at set reached x (suc left) c) (reached-place sheet heads nodes sets bytes read tabled h at set reached)
 
     -- What the search finds from the start.
     pub search-found : searched heads nodes sets budget 64 0 (sheetStart sheet) 0 ≡ (if ltb budget (historyCount sheet) then over else conclusion (historyCount sheet) (failures sheet))

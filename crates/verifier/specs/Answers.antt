@@ -1,11 +1,11 @@
 -- What the verifier's answers mean: document 01's numbers and values.
 use Prim.Native.Nat.{ℕ, _%_}
-use mathlib.Core.List.{List, [], _∷_, map}
+use mathlib.Core.List.{List, map}
 use lib.ListN.{length}
 use Rattle.states.specs.declared.States.{States}
 use Rattle.reader.specs.Format.{Answer, accepted, refused}
 use Rattle.reader.specs.Answers.{numberOf}
-use Rattle.semantics.specs.Runs.{Entry, entry, History}
+use Rattle.semantics.specs.Runs.{Entry, entry}
 use Rattle.semantics.specs.Verdict.{Verdict as Meant, valid, invalid, stopped, trace, written}
 use Rattle.verifier.specs.declared.verdict.Verdict.{Verdict}
 use Rattle.verifier.specs.Search.{Found, passed, failed, over}

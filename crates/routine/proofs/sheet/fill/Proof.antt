@@ -9,17 +9,6 @@ use Rattle.routine.proofs.EvaluatedLaws.{found, never-refused}
 use Rattle.routine.proofs.PrepareLaws.{header-refused, header-found, actions-room, start-stands, start-filled, start-accepted, goal-formula, program-room, goal-room, ends-inside, prepared-accepted, heads-filled, nodes-filled, sets-filled}
 use Rattle.routine.proofs.sheet.fill.Statement.{statement}
 use Rattle.routine.proofs.sheet.fill.Tie as tie
-use Rattle.routine.proofs.sheet.fill.Reads as reads
-use Rattle.routine.proofs.sheet.fill.Lts as lts
-use Rattle.reader.proofs.header.Reads as header-reads
-use Rattle.reader.proofs.objective_states.Reads as objective-states-reads
-use Rattle.routine.proofs.actions.fill_actions.Reads as fill-actions-reads
-use Rattle.routine.proofs.conditions.fill_tests.Reads as fill-tests-reads
-use Rattle.routine.proofs.conditions.measure.Reads as measure-reads
-use Rattle.routine.proofs.memory.put_node.Reads as put-node-reads
-use Rattle.routine.proofs.program.fill_program.Reads as fill-program-reads
-use Rattle.states.proofs.States.all.Reads as all-reads
-use Rattle.states.proofs.States.intersect.Reads as intersect-reads
 
 header-requires : tie.Need-header-requires
 header-requires c κs = search needs

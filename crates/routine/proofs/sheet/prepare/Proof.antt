@@ -6,10 +6,6 @@ use Rattle.routine.specs.Tables.{preparedOf, sheetHeads, nodeCells, setW
 use Rattle.routine.proofs.PrepareLaws.{some-sheet, refused-start, refused-memory}
 use Rattle.routine.proofs.sheet.prepare.Statement.{statement}
 use Rattle.routine.proofs.sheet.prepare.Tie as tie
-use Rattle.routine.proofs.sheet.prepare.Reads as reads
-use Rattle.routine.proofs.sheet.prepare.Lts as lts
-use Rattle.reader.proofs.read.Reads as read-reads
-use Rattle.routine.proofs.sheet.fill.Reads as fill-reads
 
 read-requires : tie.Need-read-requires
 read-requires c κs = search needs
