@@ -1,19 +1,17 @@
 -- The checker's answer by what `prepare` answers. Assumes nothing.
 use Prim.Native.Nat.{ℕ}
-use mathlib.Core.Path.{_≡_, refl, sym, ap, _∙_}
+use mathlib.Core.Path.{_≡_, sym, ap, _∙_}
 use mathlib.Core.List.{List}
 use mathlib.Core.Bool.{Bool, _&&_}
-use native.Mathlib.Omega.{arith}
 use lib.ListN.{length}
 use Rattle.states.specs.declared.States.{States}
-use Rattle.reader.specs.Syntax.{Sheet}
-use Rattle.reader.specs.Format.{Answer, accepted, refused, reading}
+use Rattle.reader.specs.Format.{accepted, refused, reading}
 use Rattle.reader.specs.declared.refusal.Refusal.{Refusal}
 use Rattle.reader.specs.Answers.{numberOf}
 use Rattle.semantics.specs.Checker.{isTraceLength, checkedFor, checked}
 use Rattle.semantics.proofs.CheckerLaws.{checked-accepted}
 use Rattle.routine.specs.declared.sheet.Prepared.{Prepared}
-use Rattle.routine.specs.Tables.{sheetStart, preparedOf, startOf, prepared, sheetHeads, nodeCells, setWords}
+use Rattle.routine.specs.Tables.{preparedOf, startOf, prepared, sheetHeads, nodeCells, setWords}
 use Rattle.routine.proofs.TableLaws.{Tabled, prepared-tabled, ready-sheet, refused-sheet}
 use Rattle.checker.specs.Shown.{showsBy}
 use Rattle.checker.proofs.ShownLaws.{shown-failing}

@@ -1,29 +1,23 @@
 -- What a trace shows by the tables of an accepted sheet is what it shows by definition. Assumes nothing.
-use Prim.Native.Nat.{ℕ, _+_, _/_, _%_, _^_, _<_, _≤_}
+use Prim.Native.Nat.{ℕ, _+_, _/_, _%_, _≤_}
 use mathlib.Core.Path.{_≡_, refl, sym, ap, _∙_}
 use mathlib.Core.List.{List, [], _∷_, _++_, append-nil, append-assoc}
-use mathlib.Core.Logic.{_⊎_, inl, inr, ⊎-elim}
+use mathlib.Core.Logic.{_⊎_, inl, inr}
 use mathlib.Core.Bool.{Bool, true, false, not, _&&_}
 use native.Mathlib.Omega.{arith}
-use native.Mathlib.Decide.{decLt}
-use lib.Pow.{pow-mono}
 use lib.Dec.{eqb, leb}
 use lib.ListN.{length}
 use borrow.Author.Tests.{eqb-true, eqb-false, eq-eqb, ne-eqb}
-use Rattle.lists.specs.Lists.{exists}
-use Rattle.lists.proofs.ListLaws.{two-cases, same-test, both-true, and-both, exists-mem, mem-exists}
+use Rattle.lists.proofs.ListLaws.{both-true}
 use Rattle.states.specs.declared.States.{States}
 use Rattle.states.specs.Sets.{member, setOf}
-use Rattle.states.proofs.SetLaws.{member-setOf, member-above}
 use Rattle.reader.specs.Syntax.{Sheet}
-use Rattle.reader.specs.Truth.{isState, states, holds}
+use Rattle.reader.specs.Truth.{isState, holds}
 use Rattle.reader.specs.Format.{accepted, reading}
-use Rattle.reader.proofs.StateLaws.{state-below, state-listed}
 use Rattle.reader.proofs.SheetLaws.{accepted-shape}
 use Rattle.semantics.specs.Runs.{Entry, entry, History, extended, replies, step, isSteps, holdsAfter}
 use Rattle.semantics.specs.Routine.{Policy, done, perform, routine, follows, isFull}
 use Rattle.semantics.specs.Replies.{leftAfter}
-use Rattle.semantics.specs.Progression.{nextSet}
 use Rattle.semantics.specs.Checker.{isTraceLength, shownHistory, shownStates, showsFailing}
 use Rattle.routine.specs.Tables.{sheetStart}
 use Rattle.routine.proofs.TableLaws.{Tabled}
@@ -39,6 +33,10 @@ module _ (sheet : Sheet) (few : sheet .facts ≤ 8) where
   start-member : (s : ℕ) → member (sheetStart sheet) s ≡ isState sheet s && holds (sheet .start) s
   unfolding sheetStart
   start-member = member-states sheet few (λ s. isState sheet s && holds (sheet .start) s) (λ s e. (both-true (isState sheet s) (holds (sheet .start) s) e) .0)
+
+-- A run's own state, as a set.
+abbrev own : ℕ → States
+own s = setOf (λ u. eqb u s)
 
 -- By definition: whether states follow state s by the entries g, the entries follow a policy to its end, and the goal fails after the history of all.
 module _ (sheet : Sheet) where
@@ -89,7 +87,7 @@ module _ (bytes : List ℕ) (sheet : Sheet) (read : reading bytes ≡ accepted s
 
   abbrev ShownAfter : List ℕ → Type 0
   ShownAfter rest = (h : History) (at : ℕ) (set : States) → Reached sheet heads nodes sets h at set → (s : ℕ) → isState sheet s ≡ true
-      → showsFrom heads nodes sets set at s rest ≡ shown-behind h s rest
+      → showsFrom heads nodes sets set at (own s) rest ≡ shown-behind h s rest
 
   module _ (h : History) (at : ℕ) (set : States) (s : ℕ) (i : isState sheet s ≡ true) where
     no-bytes : AtAction sheet heads nodes sets h at set ⊎ AtEnd sheet heads nodes sets h at set → endFails (settled nodes sets set at) ≡ failsBehind sheet (left h) s [] [] (h ++ [])
@@ -103,7 +101,7 @@ module _ (bytes : List ℕ) (sheet : Sheet) (read : reading bytes ≡ accepted s
     -- Two bytes: an action's number c with its reply r, and a state.
     module _ (r t : ℕ) (rest : List ℕ) (later : ShownAfter rest) where
       abbrev onward : States → (next : ℕ) → Bool
-      onward u next = showsFrom heads nodes sets u next t rest
+      onward u next = showsFrom heads nodes sets u next (own t) rest
 
       abbrev behind : ℕ → Bool
       behind c = failsBehind sheet (left h) s (entry c r ∷ shownHistory rest) (t ∷ shownStates rest) (h ++ (entry c r ∷ shownHistory rest))
@@ -130,7 +128,7 @@ module _ (bytes : List ℕ) (sheet : Sheet) (read : reading bytes ≡ accepted s
             ∙ ap (λ (p : Policy). failsBehind sheet p t (shownHistory rest) (shownStates rest) (extended h a r ++ shownHistory rest)) (x .next-left r)
             ∙ ap (failsBehind sheet (x .after r) t (shownHistory rest) (shownStates rest)) (append-assoc h (entry a r ∷ []) (shownHistory rest))
 
-        same-step : member (stepped heads sets (setOf (λ u. eqb u s)) a r) t && onward (stepped heads sets set a r) (x .place + 1) ≡ behind a
+        same-step : member (stepped heads sets (own s) a r) t && onward (stepped heads sets set a r) (x .place + 1) ≡ behind a
         same-step =
             ap (λ (b : Bool). b && onward (stepped heads sets set a r) (x .place + 1)) (single-step sheet few heads nodes sets tabled s i a (x .known-action) r t)
             ∙ go (isState sheet t && step sheet (entry a r) s t) refl
@@ -143,19 +141,19 @@ module _ (bytes : List ℕ) (sheet : Sheet) (read : reading bytes ≡ accepted s
             go true e = same-later ((both-true (isState sheet t) (step sheet (entry a r) s t) e) .0)
             go false e = refl
 
-        next-bytes : (c : ℕ) → eqb a c && (member (stepped heads sets (setOf (λ u. eqb u s)) a r) t && onward (stepped heads sets set a r) (x .place + 1)) ≡ behind c
+        next-bytes : (c : ℕ) → eqb a c && (member (stepped heads sets (own s) a r) t && onward (stepped heads sets set a r) (x .place + 1)) ≡ behind c
         next-bytes c = go (eqb a c) refl
           where
-            go : (b : Bool) → eqb a c ≡ b → b && (member (stepped heads sets (setOf (λ u. eqb u s)) a r) t && onward (stepped heads sets set a r) (x .place + 1)) ≡ behind c
+            go : (b : Bool) → eqb a c ≡ b → b && (member (stepped heads sets (own s) a r) t && onward (stepped heads sets set a r) (x .place + 1)) ≡ behind c
             go true e = same-step ∙ ap behind (eqb-true a c e)
             go false e = sym (behind-next c false (ne-eqb c a (λ q. eqb-false a c e (sym q))))
 
-      two-bytes : (c : ℕ) → AtAction sheet heads nodes sets h at set ⊎ AtEnd sheet heads nodes sets h at set → goesOn heads nodes sets (settled nodes sets set at) c r s t set onward ≡ behind c
+      two-bytes : (c : ℕ) → AtAction sheet heads nodes sets h at set ⊎ AtEnd sheet heads nodes sets h at set → goesOn heads nodes sets (settled nodes sets set at) c r t (own s) set onward ≡ behind c
       unfolding goesOn
-      two-bytes c (inl x) = ap (λ (p : Place). goesOn heads nodes sets p c r s t set onward) (x .settles) ∙ next-bytes x c
+      two-bytes c (inl x) = ap (λ (p : Place). goesOn heads nodes sets p c r t (own s) set onward) (x .settles) ∙ next-bytes x c
       two-bytes c (inr x) =
           let all = h ++ (entry c r ∷ shownHistory rest) in
-          ap (λ (p : Place). goesOn heads nodes sets p c r s t set onward) (x .settles)
+          ap (λ (p : Place). goesOn heads nodes sets p c r t (own s) set onward) (x .settles)
           ∙ sym (ap (λ (p : Policy). failsBehind sheet p s (entry c r ∷ shownHistory rest) (t ∷ shownStates rest) all) (x .nothing)
           ∙ more-done sheet s all (entry c r) t (shownHistory rest) (shownStates rest))
 
@@ -163,14 +161,14 @@ module _ (bytes : List ℕ) (sheet : Sheet) (read : reading bytes ≡ accepted s
   rest-shown : (rest : List ℕ) → length rest % 2 ≡ 0 → ShownAfter rest
   unfolding shownHistory shownStates
   rest-shown [] e h at set reached s i =
-      none-left heads nodes sets set at s ∙ no-bytes h at set s i (reached-place sheet heads nodes sets bytes read tabled h at set reached)
+      none-left heads nodes sets set at (own s) ∙ no-bytes h at set s i (reached-place sheet heads nodes sets bytes read tabled h at set reached)
   rest-shown (b ∷ []) e h at set reached s i = absurd (omega arith)
   rest-shown (b ∷ t ∷ rest) e h at set reached s i =
-      two-left heads nodes sets set at s b t rest
+      two-left heads nodes sets set at (own s) b t rest
       ∙ two-bytes h at set s i (b % 8) t rest (rest-shown rest (omega arith)) (b / 8) (reached-place sheet heads nodes sets bytes read tabled h at set reached)
 
   -- The whole trace, by its start state.
-  by-tables : (s : ℕ) (rest : List ℕ) → showsBy heads nodes sets (sheetStart sheet) (s ∷ rest) ≡ member (sheetStart sheet) s && showsFrom heads nodes sets (sheetStart sheet) 0 s rest
+  by-tables : (s : ℕ) (rest : List ℕ) → showsBy heads nodes sets (sheetStart sheet) (s ∷ rest) ≡ member (sheetStart sheet) s && showsFrom heads nodes sets (sheetStart sheet) 0 (own s) rest
   unfolding showsBy
   by-tables s rest = refl
 
@@ -186,10 +184,10 @@ module _ (bytes : List ℕ) (sheet : Sheet) (read : reading bytes ≡ accepted s
 
   trace-shown : (s : ℕ) (rest : List ℕ) → length rest % 2 ≡ 0 → showsBy heads nodes sets (sheetStart sheet) (s ∷ rest) ≡ showsFailing sheet (s ∷ rest)
   trace-shown s rest even =
-      by-tables s rest ∙ ap (λ (b : Bool). b && showsFrom heads nodes sets (sheetStart sheet) 0 s rest) (start-member sheet few s)
+      by-tables s rest ∙ ap (λ (b : Bool). b && showsFrom heads nodes sets (sheetStart sheet) 0 (own s) rest) (start-member sheet few s)
       ∙ go (isState sheet s && holds (sheet .start) s) refl ∙ sym (by-definition s rest)
     where
-      go : (m : Bool) → isState sheet s && holds (sheet .start) s ≡ m → m && showsFrom heads nodes sets (sheetStart sheet) 0 s rest
+      go : (m : Bool) → isState sheet s && holds (sheet .start) s ≡ m → m && showsFrom heads nodes sets (sheetStart sheet) 0 (own s) rest
           ≡ ((m && isSteps sheet s (shownHistory rest) (shownStates rest)) && follows (routine sheet) (shownHistory rest))
           && (isFull (routine sheet) (shownHistory rest) && not (holdsAfter sheet (shownHistory rest) (sheet .goal)))
       go true e =

@@ -46,20 +46,20 @@ drop-two xs k l =
     drop-next xs k (omega arith) ∙ ap (λ (ys : List ℕ). getD xs k 0 ∷ ys) (drop-next xs (k + 1) l ∙ ap (λ (v : ℕ). getD xs (k + 1) 0 ∷ drop v xs) e)
 
 -- One step, by how many bytes are left.
-module _ (heads nodes sets : List ℕ) (set : States) (at s : ℕ) where
-  pub none-left : showsFrom heads nodes sets set at s [] ≡ endFails (settled nodes sets set at)
+module _ (heads nodes sets : List ℕ) (set : States) (at : ℕ) (own : States) where
+  pub none-left : showsFrom heads nodes sets set at own [] ≡ endFails (settled nodes sets set at)
   unfolding showsFrom
   none-left = refl
 
-  pub two-left : (b t : ℕ) (rest : List ℕ) → showsFrom heads nodes sets set at s (b ∷ t ∷ rest)
-      ≡ goesOn heads nodes sets (settled nodes sets set at) (b / 8) (b % 8) s t set (λ after next. showsFrom heads nodes sets after next t rest)
+  pub two-left : (b t : ℕ) (rest : List ℕ) → showsFrom heads nodes sets set at own (b ∷ t ∷ rest)
+      ≡ goesOn heads nodes sets (settled nodes sets set at) (b / 8) (b % 8) t own set (λ after next. showsFrom heads nodes sets after next (setOf (λ u. eqb u t)) rest)
   unfolding showsFrom
   two-left b t rest = refl
 
 module _ (heads nodes sets : List ℕ) (trace : List ℕ) where
   -- The first byte is a start state, or the trace shows nothing.
   module _ (start : States) (some : 0 < length trace) where
-    first-byte : showsBy heads nodes sets start trace ≡ member start (getD trace 0 0) && showsFrom heads nodes sets start 0 (getD trace 0 0) (drop 1 trace)
+    first-byte : showsBy heads nodes sets start trace ≡ member start (getD trace 0 0) && showsFrom heads nodes sets start 0 (setOf (λ u. eqb u (getD trace 0 0))) (drop 1 trace)
     unfolding showsBy
     first-byte = ap (showsBy heads nodes sets start) (drop-next trace 0 some)
 
@@ -67,26 +67,30 @@ module _ (heads nodes sets : List ℕ) (trace : List ℕ) where
     no-start true e = first-byte ∙ rw e
     no-start false e = refl
 
-    pub starts : member start (getD trace 0 0) ≡ true → showsBy heads nodes sets start trace ≡ showsFrom heads nodes sets start 0 (getD trace 0 0) (drop 1 trace)
+    pub starts : member start (getD trace 0 0) ≡ true → showsBy heads nodes sets start trace ≡ showsFrom heads nodes sets start 0 (setOf (λ u. eqb u (getD trace 0 0))) (drop 1 trace)
     starts e = first-byte ∙ rw e
 
   -- Two bytes more: the run ends, another action comes next, the state doesn't follow, or the run goes on.
-  module _ (set : States) (at s k : ℕ) where
+  module _ (set : States) (at : ℕ) (own : States) (k : ℕ) where
     abbrev b : ℕ
     b = getD trace k 0
 
     abbrev t : ℕ
     t = getD trace (k + 1) 0
 
+    -- The run's own state behind them.
+    abbrev own′ : States
+    own′ = setOf (λ u. eqb u t)
+
     abbrev from : Bool
-    from = showsFrom heads nodes sets set at s (drop k trace)
+    from = showsFrom heads nodes sets set at own (drop k trace)
 
     module _ (room : k + 1 < length trace) where
       two-bytes : (place : Place) → settled nodes sets set at ≡ place
-          → from ≡ goesOn heads nodes sets place (b / 8) (b % 8) s t set (λ after next. showsFrom heads nodes sets after next t (drop (k + 2) trace))
+          → from ≡ goesOn heads nodes sets place (b / 8) (b % 8) t own set (λ after next. showsFrom heads nodes sets after next own′ (drop (k + 2) trace))
       two-bytes place e =
-          ap (showsFrom heads nodes sets set at s) (drop-two trace k room) ∙ two-left heads nodes sets set at s b t (drop (k + 2) trace)
-          ∙ ap (λ (p : Place). goesOn heads nodes sets p (b / 8) (b % 8) s t set (λ after next. showsFrom heads nodes sets after next t (drop (k + 2) trace))) e
+          ap (showsFrom heads nodes sets set at own) (drop-two trace k room) ∙ two-left heads nodes sets set at own b t (drop (k + 2) trace)
+          ∙ ap (λ (p : Place). goesOn heads nodes sets p (b / 8) (b % 8) t own set (λ after next. showsFrom heads nodes sets after next own′ (drop (k + 2) trace))) e
 
       pub ends-before : (holds : Bool) → settled nodes sets set at ≡ Place.End holds → from ≡ false
       unfolding goesOn
@@ -94,10 +98,10 @@ module _ (heads nodes sets : List ℕ) (trace : List ℕ) where
 
       module _ (node action : ℕ) (e : settled nodes sets set at ≡ Place.Act node action) where
         abbrev onward : Bool
-        onward = showsFrom heads nodes sets (stepped heads sets set action (b % 8)) (node + 1) t (drop (k + 2) trace)
+        onward = showsFrom heads nodes sets (stepped heads sets set action (b % 8)) (node + 1) own′ (drop (k + 2) trace)
 
         abbrev follows-state : Bool
-        follows-state = member (stepped heads sets (setOf (λ u. eqb u s)) action (b % 8)) t
+        follows-state = member (stepped heads sets own action (b % 8)) t
 
         at-action : from ≡ eqb action (b / 8) && (follows-state && onward)
         unfolding goesOn
@@ -106,20 +110,22 @@ module _ (heads nodes sets : List ℕ) (trace : List ℕ) where
         pub other-action : (action ≡ b / 8 → ⊥) → from ≡ false
         other-action n = at-action ∙ ap (λ (x : Bool). x && (follows-state && onward)) (ne-eqb action (b / 8) n)
 
-        module _ (a : action ≡ b / 8) (one after : States) (o : one ≡ setOf (λ u. eqb u s)) (f : after ≡ stepped heads sets one action (b % 8)) where
+        module _ (a : action ≡ b / 8) (after : States) (f : after ≡ stepped heads sets own action (b % 8)) where
           same-action : (m : Bool) → member after t ≡ m → from ≡ m && onward
           same-action m h =
               at-action ∙ ap (λ (x : Bool). x && (follows-state && onward)) (eq-eqb action (b / 8) a)
-              ∙ ap (λ (u : States). member u t && onward) (ap (λ (u : States). stepped heads sets u action (b % 8)) (sym o) ∙ sym f)
+              ∙ ap (λ (u : States). member u t && onward) (sym f)
               ∙ ap (λ (x : Bool). x && onward) h
 
           pub no-step : member after t ≡ false → from ≡ false
           no-step = same-action false
 
-          pub goes-on : member after t ≡ true → (more : States) → more ≡ stepped heads sets set action (b % 8)
-              → from ≡ showsFrom heads nodes sets more (node + 1) t (drop (k + 2) trace)
-          goes-on m more g = same-action true m ∙ ap (λ (u : States). showsFrom heads nodes sets u (node + 1) t (drop (k + 2) trace)) (sym g)
+          pub goes-on : member after t ≡ true → (more : States) → more ≡ stepped heads sets set action (b % 8) → (one : States) → one ≡ own′
+              → from ≡ showsFrom heads nodes sets more (node + 1) one (drop (k + 2) trace)
+          goes-on m more g one o =
+              same-action true m ∙ ap (λ (u : States). showsFrom heads nodes sets u (node + 1) own′ (drop (k + 2) trace)) (sym g)
+              ∙ ap (λ (u : States). showsFrom heads nodes sets more (node + 1) u (drop (k + 2) trace)) (sym o)
 
     -- No byte is left.
     pub all-read : (place : Place) → settled nodes sets set at ≡ place → length trace ≤ k → from ≡ endFails place
-    all-read place e l = ap (showsFrom heads nodes sets set at s) (drop-of-length-le trace l) ∙ none-left heads nodes sets set at s ∙ ap endFails e
+    all-read place e l = ap (showsFrom heads nodes sets set at own) (drop-of-length-le trace l) ∙ none-left heads nodes sets set at own ∙ ap endFails e

@@ -42,10 +42,11 @@ fn shows(
     if TRACE < trace.len() {
         return false;
     }
-    let mut state = trace[0];
-    if !start.has(state) {
+    let first = trace[0];
+    if !start.has(first) {
         return false;
     }
+    let mut own = States::one(first);
     let mut set = start;
     let mut at = 0;
     let mut k = 1;
@@ -61,17 +62,18 @@ fn shows(
                 }
                 let reply = (b % 8) as usize;
                 let next = trace[k + 1];
-                if !step(heads, sets, States::one(state), action, reply).has(next) {
+                if !step(heads, sets, own, action, reply).has(next) {
                     return false;
                 }
                 set = step(heads, sets, set, action, reply);
-                state = next;
+                own = States::one(next);
                 at = node + 1;
                 k = k + 2;
             }
         }
     }
-    match settle(nodes, sets, set, at) {
+    let last = settle(nodes, sets, set, at);
+    match last {
         Place::Act(node, action) => false,
         Place::End(holds) => !holds,
     }

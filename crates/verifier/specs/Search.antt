@@ -1,7 +1,7 @@
 -- The search through the histories over a routine's tables, whatever numbers are in the memory. It is a method and defines nothing of document 01;
 -- proofs/SearchLaws.antt shows its agreement with the histories of runs that follow the routine.
 use Prim.Native.Nat.{ℕ, zero, suc, _+_, _*_, _%_}
-use mathlib.Core.Path.{_≡_}
+use mathlib.Core.Path.{_≡_, refl}
 use mathlib.Core.List.{List, [], _∷_, _++_, map}
 use mathlib.Core.Bool.{true, false}
 use lib.Dec.{eqb}
@@ -9,8 +9,10 @@ use lib.ListN.{length, take}
 use Rattle.lists.specs.Lists.{if_then_else_, upFrom, below, nonempty}
 use Rattle.states.specs.declared.States.{States}
 use Rattle.states.specs.Sets.{members}
+use Rattle.reader.specs.Syntax.{top, fact, negation, Epistemic, known, any-of, end, act, probe, Sheet}
 use Rattle.semantics.specs.Runs.{Entry, entry, History}
 use Rattle.routine.specs.Memory.{headAt}
+use Rattle.routine.specs.Tables.{sheetHeads, nodeCells, setWords, low}
 use Rattle.progression.specs.declared.place.Place.{Place}
 use Rattle.progression.specs.Machine.{settled, stepped}
 use Rattle.verifier.specs.declared.search.Searched.{Searched}
@@ -85,3 +87,34 @@ pub record SearchedBy (depth : ℕ) (before after : List ℕ) (r : Searched) (fo
   pub answer : r ≡ searchedOf depth found
   pub size : length after ≡ length before
   pub path : take (depth + length (pathBytes found)) after ≡ take depth before ++ pathBytes found
+
+-- Examples, evaluated.
+-- One fact, which action 0 asks for; the program asks once. The start formula is true.
+asked : Epistemic → Sheet
+asked goal = record { facts = 1; actions = probe (fact 0 ∷ negation (fact 0) ∷ []) ∷ []; start = top; goal = goal; program = act 0 end }
+
+-- The search from the start of such a sheet, where both states are possible and nothing is counted.
+found : (goal : Epistemic) (budget : ℕ) → Found
+unfolding asked sheetHeads nodeCells setWords searched
+found goal budget = searched (sheetHeads (asked goal)) (nodeCells (asked goal)) (setWords (asked goal)) budget 64 0 (low 3) 0
+
+-- The goal that the fact is known holds after reply 0 and fails after reply 1: that is the first failing history, and the count has both, "up to and including the first
+-- that does". It equals the budget, so that it does not exceed it.
+count-is-budget : found (known (fact 0)) 2 ≡ failed 2 (entry 0 1 ∷ [])
+unfolding found
+count-is-budget = refl
+
+-- "It answers stopped .. if and only if that count exceeds the budget."
+count-exceeds : found (known (fact 0)) 1 ≡ over
+unfolding found
+count-exceeds = refl
+
+-- "All of them if no full one fails the goal": the fact known, or its negation.
+all-passed : found (any-of (known (fact 0)) (known (negation (fact 0)))) 2 ≡ passed 2
+unfolding found
+all-passed = refl
+
+-- Action 5 with reply 3.
+action-and-reply : pathByte 5 3 ≡ 43
+unfolding pathByte
+action-and-reply = refl
