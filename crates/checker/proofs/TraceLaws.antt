@@ -1,11 +1,12 @@
 -- What a trace shows by a routine's tables, read two bytes at a time. Assumes nothing.
-use Prim.Native.Nat.{ℕ, zero, suc, _+_, _/_, _%_, _<_, _≤_}
+use Prim.Native.Nat.{ℕ, suc, _+_, _/_, _%_, _<_, _≤_}
 use mathlib.Core.Path.{_≡_, refl, sym, ap, _∙_}
 use mathlib.Core.List.{List, [], _∷_}
 use mathlib.Core.Bool.{Bool, true, false, _&&_}
 use native.Mathlib.Omega.{arith}
 use lib.Dec.{eqb}
 use lib.ListN.{length, getD, drop, drop-of-length-le}
+use lib.Seq.{drop-cons}
 use borrow.Author.Tests.{eq-eqb, ne-eqb, le-leb, lt-leb}
 use Rattle.states.specs.declared.States.{States}
 use Rattle.states.specs.Sets.{member, setOf}
@@ -34,11 +35,7 @@ module _ (l : ℕ) where
 
 -- What stands from a place on.
 drop-next : (xs : List ℕ) (k : ℕ) → k < length xs → drop k xs ≡ getD xs k 0 ∷ drop (k + 1) xs
-drop-next [] k l = absurd (omega arith)
-drop-next (x ∷ xs) zero l = refl
-drop-next (x ∷ xs) (suc k) l =
-    let e : suc (k + 1) ≡ suc k + 1 = omega arith in
-    drop-next xs k (omega arith) ∙ ap (λ (v : ℕ). getD xs k 0 ∷ drop v (x ∷ xs)) e
+drop-next xs k l = let e : suc k ≡ k + 1 = omega arith in drop-cons xs k 0 l ∙ ap (λ (v : ℕ). getD xs k 0 ∷ drop v xs) e
 
 drop-two : (xs : List ℕ) (k : ℕ) → k + 1 < length xs → drop k xs ≡ getD xs k 0 ∷ getD xs (k + 1) 0 ∷ drop (k + 2) xs
 drop-two xs k l =

@@ -7,6 +7,7 @@ use routine::HEAD_CELLS;
 use routine::NODE_CELLS;
 use routine::Prepared;
 use routine::SET_WORDS;
+use routine::TRACE;
 use routine::prepare;
 use states::States;
 ghost use mathlib.Core.Path.{_≡_};
@@ -14,9 +15,6 @@ ghost use mathlib.Core.Bool.{_&&_};
 ghost use lib.ListN.{length};
 ghost use Rattle.semantics.specs.Checker.{isTraceLength, checked};
 ghost use Rattle.checker.specs.Shown.{answerOf, showsBy};
-
-// The bytes of the longest trace, of 64 actions.
-const TRACE: usize = 129;
 
 // Yes or no, or the sheet is refused.
 pub enum Checked {

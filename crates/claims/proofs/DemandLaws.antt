@@ -1,20 +1,23 @@
 -- The demands follow from the contracts. Assumes nothing.
-use Prim.Native.Nat.{ℕ, _+_, _*_, _≤_}
+use Prim.Native.Nat.{ℕ, suc, _+_, _*_, _≤_, _<_}
 use mathlib.Core.Path.{_≡_, refl, sym, ap, subst, _∙_}
 use mathlib.Core.Logic.{_⊎_, inl, inr, ⊎-elim, _↔_}
-use mathlib.Core.List.{List, [], _∷_, _++_, List·Memᴰ}
+use mathlib.Core.List.{List, [], _∷_, _++_, List·Memᴰ, List·Memᴰ·head, List·Memᴰ·not-nil, List·Memᴰ·cases-cons, Memᴰ·append-left, Memᴰ·append-right}
 use mathlib.Core.Bool.{Bool, true}
 use native.Mathlib.Omega.{arith}
-use lib.ListN.{length, take, drop}
-use Rattle.lists.specs.Lists.{every}
+use lib.ListN.{length, take, drop, getD}
+use borrow.Author.Tests.{lt-ltb}
+use Rattle.lists.specs.Lists.{if_then_else_, every}
 use Rattle.states.specs.declared.States.{States}
 use Rattle.states.specs.Sets.{member, setOf, members}
 use Rattle.states.proofs.SetLaws.{members-mem, mem-members}
-use Rattle.reader.specs.Syntax.{Objective, known, Sheet}
+use Rattle.reader.specs.Syntax.{Objective, Epistemic, known, not-known, all-of, any-of, Program, end, act, branch, Sheet}
 use Rattle.reader.specs.Truth.{holds}
 use Rattle.reader.specs.Format.{Answer, accepted, refused, reading}
 use Rattle.reader.specs.declared.sheet.Answer.{Answer as Said}
 use Rattle.reader.specs.Answers.{numberOf, answerOf as readOf, withoutSheet}
+use Rattle.reader.proofs.AnswerLaws.{same-answer}
+use Rattle.reader.proofs.StateLaws.{state-byte}
 use Rattle.reader.proofs.SheetLaws.{accepted-shape}
 use Rattle.semantics.specs.Runs.{Entry, entry, History, extended, replies, IsRun, lastState, Known, Holds, holdsAfter}
 use Rattle.semantics.specs.Routine.{perform, routine, Follows, isFull}
@@ -28,34 +31,94 @@ use Rattle.semantics.proofs.VerdictLaws.{stopped-means, means-stopped, valid-me
 use Rattle.semantics.proofs.ReplyLaws.{isDone, full-left, left-next, next-follows}
 use Rattle.semantics.proofs.MemoryLaws.{verified-accepted, verified-refused, memory-kept, begins}
 use Rattle.semantics.proofs.AcceptedLaws.{starts}
+use Rattle.semantics.proofs.CheckerLaws.{yes-failing, failing-yes}
 use Rattle.routine.specs.declared.sheet.Prepared.{Prepared}
 use Rattle.routine.specs.Memory.{setAt}
-use Rattle.routine.specs.Tables.{sheetStart, sheetHeads, nodeCells, setWords, preparedOf, startOf, prepared}
-use Rattle.routine.proofs.TableLaws.{Tabled, prepared-tabled, ready-sheet}
+use Rattle.routine.specs.Tables.{sheetStart, sheetHeads, nodeCells, setWords, preparedOf, startOf, prepared, atomSets, programSets, sheetActionSets, sheetSets}
+use Rattle.routine.proofs.TableLaws.{noStates, Tabled, prepared-tabled, ready-sheet, refused-sheet}
 use Rattle.progression.specs.declared.place.Place.{Place}
 use Rattle.progression.specs.Machine.{knownBy, settled, stepped}
 use Rattle.progression.proofs.PlaceLaws.{table-known}
-use Rattle.progression.proofs.StepLaws.{state-byte, tabled-step, members-possible, member-states}
+use Rattle.progression.proofs.StepLaws.{tabled-step, members-possible, member-states}
 use Rattle.progression.proofs.RoutineLaws.{after-more, Reached, AtAction, AtEnd, start-reached, reached-place}
 use Rattle.verifier.specs.declared.verdict.Verdict.{Verdict}
 use Rattle.verifier.specs.Answers.{answerOf as verifiedOf}
 use Rattle.checker.specs.declared.Checked.{Checked}
 use Rattle.checker.specs.Shown.{answerOf as checkedOf}
-use Rattle.claims.specs.Demands.{Library, Prepares, Carried, begin, onward, Came, first, further, Demand1, Demand2, Supposed, Demand3Verdict, Demand3}
-use Rattle.claims.proofs.NumberLaws.{said-one, verdict-one, check-one}
+use Rattle.claims.specs.Demands.{Atom, Condition, Tested, Library, Prepares, Carried, begin, onward, Reaches, first, further, Demand1, Demand2, Supposed, Demand3Verdict, Demand3}
+use Rattle.claims.proofs.NumberLaws.{verdict-one, check-one as checked-one, prepared-one}
 
 -- What the contracts say of calls.
 pub record Contracts (library : Library) : Type 0 where
-  pub reads-right : (bytes : List ℕ) (a : Said) → library .reads bytes a → readOf a ≡ withoutSheet (reading bytes)
-  pub prepares-right : (bytes heads nodes sets : List ℕ) (p : Prepared) (heads′ nodes′ sets′ : List ℕ) → library .prepares bytes heads nodes sets p heads′ nodes′ sets′
+  pub read-contract : (bytes : List ℕ) (a : Said) → library .reads bytes a → readOf a ≡ withoutSheet (reading bytes)
+  pub prepare-contract : (bytes heads nodes sets : List ℕ) (p : Prepared) (heads′ nodes′ sets′ : List ℕ) → library .prepares bytes heads nodes sets p heads′ nodes′ sets′
       → (preparedOf p ≡ startOf (reading bytes)) × (heads′ ≡ prepared sheetHeads (reading bytes) heads) × (nodes′ ≡ prepared nodeCells (reading bytes) nodes)
       × (sets′ ≡ prepared setWords (reading bytes) sets)
-  pub settles-right : (nodes sets : List ℕ) (set : States) (at : ℕ) (p : Place) → library .settles nodes sets set at p → p ≡ settled nodes sets set at
-  pub steps-right : (heads sets : List ℕ) (set : States) (a r : ℕ) (next : States) → library .steps heads sets set a r next → next ≡ stepped heads sets set a r
-  pub knows-right : (sets : List ℕ) (k : ℕ) (set : States) (b : Bool) → library .knows sets k set b → b ≡ knownBy sets set k
-  pub verifies-right : (bytes : List ℕ) (budget : ℕ) (old : List ℕ) (r : Verdict) (memory : List ℕ) → library .verifies bytes budget old r memory
+  pub settle-contract : (nodes sets : List ℕ) (set : States) (at : ℕ) (p : Place) → library .settles nodes sets set at p → p ≡ settled nodes sets set at
+  pub step-contract : (heads sets : List ℕ) (set : States) (a r : ℕ) (next : States) → library .steps heads sets set a r next → next ≡ stepped heads sets set a r
+  pub known-contract : (sets : List ℕ) (k : ℕ) (set : States) (b : Bool) → library .knows sets k set b → b ≡ knownBy sets set k
+  pub verify-contract : (bytes : List ℕ) (budget : ℕ) (old : List ℕ) (r : Verdict) (memory : List ℕ) → library .verifies bytes budget old r memory
       → (verifiedOf r ≡ verified bytes budget old .answer) × (memory ≡ verified bytes budget old .memory)
-  pub checks-right : (bytes shown : List ℕ) (r : Checked) → library .checks bytes shown r → checkedOf r ≡ checked bytes shown
+  pub check-contract : (bytes shown : List ℕ) (r : Checked) → library .checks bytes shown r → checkedOf r ≡ checked bytes shown
+
+-- The reader and the checker, by the sheet's reading.
+without-accepted : (x : Answer Sheet) → accepted tt ≡ withoutSheet x → (sheet : Sheet) × (x ≡ accepted sheet)
+unfolding withoutSheet
+without-accepted (accepted sheet) e = (sheet, refl)
+without-accepted (refused r) e = let z : _≡_ {A = ℕ} 0 1 = cc in absurd (omega arith)
+
+without-refused : (x : Answer Sheet) (k : ℕ) → refused k ≡ withoutSheet x → x ≡ refused k
+unfolding withoutSheet
+without-refused (accepted sheet) k e = let z : _≡_ {A = ℕ} 0 1 = cc in absurd (omega arith)
+without-refused (refused r) k e = cc
+
+checked-refused : (shown : List ℕ) (x : Answer Sheet) (k : ℕ) → refused k ≡ checkedFor shown x → x ≡ refused k
+unfolding checkedFor
+checked-refused shown (accepted sheet) k e = let z : _≡_ {A = ℕ} 0 1 = cc in absurd (omega arith)
+checked-refused shown (refused r) k e = cc
+
+verified-number : (bytes : List ℕ) (budget : ℕ) (old : List ℕ) → 129 ≤ length old → (k : ℕ) → refused k ≡ verified bytes budget old .answer → reading bytes ≡ refused k
+verified-number bytes budget old enough k e = go (reading bytes) refl
+  where
+    go : (x : Answer Sheet) → reading bytes ≡ x → x ≡ refused k
+    go (accepted sheet) read = let d = e ∙ ap (λ (v : Verified). v .answer) (verified-accepted bytes sheet read budget old enough) in let z : _≡_ {A = ℕ} 0 1 = cc in absurd (omega arith)
+    go (refused r) read = let d = e ∙ ap (λ (v : Verified). v .answer) (verified-refused bytes r read budget old enough) in cc
+
+-- A short memory gets 30.
+verified-short : (bytes : List ℕ) (budget : ℕ) (old : List ℕ) → length old < 129 → verified bytes budget old ≡ record { answer = refused 30; memory = old }
+unfolding verified if_then_else_
+verified-short bytes budget old l = rw (lt-ltb (length old) 129 l)
+
+-- An element of a list stands at a place of it.
+mem-get : {A : Type 0} (d : A) {x : A} (xs : List A) → List·Memᴰ x xs → (k : ℕ) × (k < length xs) × (getD xs k d ≡ x)
+mem-get d [] m = absurd (List·Memᴰ·not-nil m)
+mem-get d {x} (y ∷ xs) m = ⊎-elim (λ (e : x ≡ y). (0, omega arith, sym e)) (λ k. let q = mem-get d xs k in (suc (q .0), omega (arith, q .1), q .2)) (List·Memᴰ·cases-cons m)
+
+-- The set of an atom's formula is among those of its formula's atoms, and so of its program.
+atom-set : (f : Objective) (e : Epistemic) → Atom f e → List·Memᴰ (setOf (λ s. holds f s)) (atomSets e)
+unfolding Atom atomSets
+atom-set f (known g) a = List·Memᴰ·head (ap (λ (h : Objective). setOf (λ s. holds h s)) a)
+atom-set f (not-known g) a = List·Memᴰ·head (ap (λ (h : Objective). setOf (λ s. holds h s)) a)
+atom-set f (all-of x y) a = ⊎-elim (λ l. Memᴰ·append-left (atomSets y) (atom-set f x l)) (λ r. Memᴰ·append-right (atomSets x) (atom-set f y r)) a
+atom-set f (any-of x y) a = ⊎-elim (λ l. Memᴰ·append-left (atomSets y) (atom-set f x l)) (λ r. Memᴰ·append-right (atomSets x) (atom-set f y r)) a
+
+condition-set : (f : Objective) (e : Epistemic) → Atom f e → (p : Program) → Condition e p → List·Memᴰ (setOf (λ s. holds f s)) (programSets p)
+unfolding Condition programSets
+condition-set f e a end c = absurd c
+condition-set f e a (act n rest) c = condition-set f e a rest c
+condition-set f e a (branch g y z rest) c =
+    ⊎-elim (λ (q : e ≡ g). Memᴰ·append-left (programSets y ++ (programSets z ++ programSets rest)) (atom-set f g (subst (Atom f) q a)))
+    (λ d. Memᴰ·append-right (atomSets g)
+    (⊎-elim (λ l. Memᴰ·append-left (programSets z ++ programSets rest) (condition-set f e a y l))
+    (λ r. Memᴰ·append-right (programSets y) (⊎-elim (λ l. Memᴰ·append-left (programSets rest) (condition-set f e a z l)) (λ q. Memᴰ·append-right (programSets z) (condition-set f e a rest q)) r))
+    d))
+    c
+
+tested-set : (f : Objective) (sheet : Sheet) → Tested f sheet → List·Memᴰ (setOf (λ s. holds f s)) (sheetSets sheet)
+unfolding Tested sheetSets
+tested-set f sheet t =
+    Memᴰ·append-right (sheetActionSets sheet)
+    (⊎-elim (λ g. Memᴰ·append-right (programSets (sheet .program)) (atom-set f (sheet .goal) g)) (λ c. Memᴰ·append-left (atomSets (sheet .goal)) (condition-set f (c .0) (c .2) (sheet .program) (c .1))) t)
 
 module _ (library : Library) (contracts : Contracts library) where
   -- Demand 1.
@@ -63,7 +126,7 @@ module _ (library : Library) (contracts : Contracts library) where
   unfolding verifiedOf
   demand1 = record {
     memory-holds = λ bytes budget old r memory call.
-        let v = contracts .verifies-right bytes budget old r memory call in
+        let v = contracts .verify-contract bytes budget old r memory call in
         ⊎-elim
         (λ k. inl (v .1 ∙ k .0, λ c l e. k .1 c l (sym (v .0) ∙ ap verifiedOf e)))
         (λ k.
@@ -79,34 +142,16 @@ module _ (library : Library) (contracts : Contracts library) where
           ap length (v .1) ∙ k .8,
         ))
         (memory-kept bytes budget old);
-    answer-fixed = λ bytes budget old r q memory other c d.
-        let v = contracts .verifies-right bytes budget old r memory c in
-        let w = contracts .verifies-right bytes budget old q other d in
-        (verdict-one r q (v .0 ∙ sym (w .0)), v .1 ∙ sym (w .1));
+    read-fixed = contracts .read-contract;
+    verify-fixed = contracts .verify-contract;
+    check-fixed = contracts .check-contract;
+    verify-one = verdict-one;
+    check-one = checked-one;
+    short-first = λ bytes budget old r memory call l.
+        let v = contracts .verify-contract bytes budget old r memory call in
+        let w = verified-short bytes budget old l in
+        (verdict-one r Verdict.ShortMemory (v .0 ∙ ap (λ (x : Verified). x .answer) w), v .1 ∙ ap (λ (x : Verified). x .memory) w);
   }
-
-  -- The reader and the checker, by the sheet's reading.
-  without-accepted : (x : Answer Sheet) → accepted tt ≡ withoutSheet x → (sheet : Sheet) × (x ≡ accepted sheet)
-  unfolding withoutSheet
-  without-accepted (accepted sheet) e = (sheet, refl)
-  without-accepted (refused r) e = let z : _≡_ {A = ℕ} 0 1 = cc in absurd (omega arith)
-
-  without-refused : (x : Answer Sheet) (k : ℕ) → refused k ≡ withoutSheet x → x ≡ refused k
-  unfolding withoutSheet
-  without-refused (accepted sheet) k e = let z : _≡_ {A = ℕ} 0 1 = cc in absurd (omega arith)
-  without-refused (refused r) k e = cc
-
-  checked-refused : (shown : List ℕ) (x : Answer Sheet) (k : ℕ) → refused k ≡ checkedFor shown x → x ≡ refused k
-  unfolding checkedFor
-  checked-refused shown (accepted sheet) k e = let z : _≡_ {A = ℕ} 0 1 = cc in absurd (omega arith)
-  checked-refused shown (refused r) k e = cc
-
-  verified-number : (bytes : List ℕ) (budget : ℕ) (old : List ℕ) → 129 ≤ length old → (k : ℕ) → refused k ≡ verified bytes budget old .answer → reading bytes ≡ refused k
-  verified-number bytes budget old enough k e = go (reading bytes) refl
-    where
-      go : (x : Answer Sheet) → reading bytes ≡ x → x ≡ refused k
-      go (accepted sheet) read = let d = e ∙ ap (λ (v : Verified). v .answer) (verified-accepted bytes sheet read budget old enough) in let z : _≡_ {A = ℕ} 0 1 = cc in absurd (omega arith)
-      go (refused r) read = let d = e ∙ ap (λ (v : Verified). v .answer) (verified-refused bytes r read budget old enough) in cc
 
   -- The tables of a sheet, and the set carried along a history.
   module _ (bytes : List ℕ) (sheet : Sheet) (heads nodes sets : List ℕ) (start : States) (tables : Prepares library bytes sheet heads nodes sets start) where
@@ -115,7 +160,7 @@ module _ (library : Library) (contracts : Contracts library) where
 
     made : (preparedOf (Prepared.Ready start) ≡ startOf (reading bytes)) × (heads ≡ prepared sheetHeads (reading bytes) (tables .heads₀))
         × (nodes ≡ prepared nodeCells (reading bytes) (tables .nodes₀)) × (sets ≡ prepared setWords (reading bytes) (tables .sets₀))
-    made = contracts .prepares-right bytes (tables .heads₀) (tables .nodes₀) (tables .sets₀) (Prepared.Ready start) heads nodes sets (tables .made)
+    made = contracts .prepare-contract bytes (tables .heads₀) (tables .nodes₀) (tables .sets₀) (Prepared.Ready start) heads nodes sets (tables .made)
 
     tabled : Tabled sheet heads nodes sets
     tabled =
@@ -134,7 +179,7 @@ module _ (library : Library) (contracts : Contracts library) where
     unfolding setAfter sheetStart startSet
     carried-set h set begin = start-is
     carried-set h set (onward g before a r next c l s) =
-        contracts .steps-right heads sets before a r next s ∙ ap (λ (u : States). stepped heads sets u a r) (carried-set g before c)
+        contracts .step-contract heads sets before a r next s ∙ ap (λ (u : States). stepped heads sets u a r) (carried-set g before c)
         ∙ tabled-step sheet few heads nodes sets tabled (setAfter sheet (startSet sheet) g) (set-states sheet g) a l r ∙ ap setOf (sym (after-more sheet (startSet sheet) g (entry a r)))
 
     -- Its states are the last states of the runs with the history; what a formula's table says of it is what holds in all of them.
@@ -163,14 +208,14 @@ module _ (library : Library) (contracts : Contracts library) where
     carried-known h set c k f e b call =
         let same : members set ≡ possible sheet h = ap members (carried-set h set c) ∙ members-possible sheet few h in
         let tested : b ≡ holdsAfter sheet h (known f) =
-        contracts .knows-right sets k set b call ∙ table-known (setAt sets) set k f e ∙ ap (every (holds f)) same ∙ sym (holds-possible sheet h (known f)) in
+        contracts .known-contract sets k set b call ∙ table-known (setAt sets) set k f e ∙ ap (every (holds f)) same ∙ sym (holds-possible sheet h (known f)) in
         (λ t. tested-holds sheet h (known f) (sym tested ∙ t), λ t. tested ∙ holds-tested sheet h (known f) t)
 
     -- The place and the set to which calls come are those of the routine.
-    came-reached : (h : History) (at : ℕ) (set : States) → Came library heads nodes sets start h at set → Reached sheet heads nodes sets h at set
-    came-reached h at set first = subst (Reached sheet heads nodes sets [] 0) (sym start-is) (start-reached sheet heads nodes sets bytes (tables .read) tabled)
-    came-reached h at set (further g before-at before node a r next c s t) =
-        go (reached-place sheet heads nodes sets bytes (tables .read) tabled g before-at before (came-reached g before-at before c)) (contracts .settles-right nodes sets before before-at (Place.Act node a) s)
+    reaches-reached : (h : History) (at : ℕ) (set : States) → Reaches library heads nodes sets start h at set → Reached sheet heads nodes sets h at set
+    reaches-reached h at set first = subst (Reached sheet heads nodes sets [] 0) (sym start-is) (start-reached sheet heads nodes sets bytes (tables .read) tabled)
+    reaches-reached h at set (further g before-at before node a r next c s t) =
+        go (reached-place sheet heads nodes sets bytes (tables .read) tabled g before-at before (reaches-reached g before-at before c)) (contracts .settle-contract nodes sets before before-at (Place.Act node a) s)
       where
         go : AtAction sheet heads nodes sets g before-at before ⊎ AtEnd sheet heads nodes sets g before-at before → Place.Act node a ≡ settled nodes sets before before-at
             → Reached sheet heads nodes sets (extended g a r) (node + 1) next
@@ -178,7 +223,7 @@ module _ (library : Library) (contracts : Contracts library) where
             let same : Place.Act node a ≡ Place.Act (x .place) (x .action) = e ∙ x .settles in
             let place : x .place ≡ node = cc in
             let action : x .action ≡ a = cc in
-            let stepping : stepped heads sets before (x .action) r ≡ next = ap (λ (b : ℕ). stepped heads sets before b r) action ∙ sym (contracts .steps-right heads sets before a r next t) in
+            let stepping : stepped heads sets before (x .action) r ≡ next = ap (λ (b : ℕ). stepped heads sets before b r) action ∙ sym (contracts .step-contract heads sets before a r next t) in
             subst (λ (b : ℕ). Reached sheet heads nodes sets (extended g b r) (node + 1) next) action
             (subst (λ (p : ℕ). Reached sheet heads nodes sets (extended g (x .action) r) (p + 1) next) place
             (subst (Reached sheet heads nodes sets (extended g (x .action) r) (x .place + 1)) stepping (x .onward r)))
@@ -186,16 +231,16 @@ module _ (library : Library) (contracts : Contracts library) where
             let same : Place.Act node a ≡ Place.End (holdsAfter sheet g (sheet .goal)) = e ∙ x .settles in
             let z : _≡_ {A = ℕ} 0 1 = cc in absurd (omega arith)
 
-    module _ (h : History) (at : ℕ) (set : States) (came : Came library heads nodes sets start h at set) where
+    module _ (h : History) (at : ℕ) (set : States) (came : Reaches library heads nodes sets start h at set) where
       here : AtAction sheet heads nodes sets h at set ⊎ AtEnd sheet heads nodes sets h at set
-      here = reached-place sheet heads nodes sets bytes (tables .read) tabled h at set (came-reached h at set came)
+      here = reached-place sheet heads nodes sets bytes (tables .read) tabled h at set (reaches-reached h at set came)
 
       follows-here : Follows (routine sheet) h
-      follows-here = came-reached h at set came .follows
+      follows-here = reaches-reached h at set came .follows
 
       action-told : (node a : ℕ) → library .settles nodes sets set at (Place.Act node a)
           → Follows (routine sheet) h × ((r : ℕ) → Follows (routine sheet) (extended h a r)) × ((e : Entry) (g : History) → Follows (routine sheet) (h ++ (e ∷ g)) → e .action ≡ a)
-      action-told node a call = go here (contracts .settles-right nodes sets set at (Place.Act node a) call)
+      action-told node a call = go here (contracts .settle-contract nodes sets set at (Place.Act node a) call)
         where
           go : AtAction sheet heads nodes sets h at set ⊎ AtEnd sheet heads nodes sets h at set → Place.Act node a ≡ settled nodes sets set at
               → Follows (routine sheet) h × ((r : ℕ) → Follows (routine sheet) (extended h a r)) × ((e : Entry) (g : History) → Follows (routine sheet) (h ++ (e ∷ g)) → e .action ≡ a)
@@ -213,7 +258,7 @@ module _ (library : Library) (contracts : Contracts library) where
 
       end-told : (goal : Bool) → library .settles nodes sets set at (Place.End goal) → Follows (routine sheet) h × (isFull (routine sheet) h ≡ true) × ((goal ≡ true) ↔ Holds sheet h (sheet .goal))
       unfolding isDone
-      end-told goal call = go here (contracts .settles-right nodes sets set at (Place.End goal) call)
+      end-told goal call = go here (contracts .settle-contract nodes sets set at (Place.End goal) call)
         where
           go : AtAction sheet heads nodes sets h at set ⊎ AtEnd sheet heads nodes sets h at set → Place.End goal ≡ settled nodes sets set at
               → Follows (routine sheet) h × (isFull (routine sheet) h ≡ true) × ((goal ≡ true) ↔ Holds sheet h (sheet .goal))
@@ -230,22 +275,34 @@ module _ (library : Library) (contracts : Contracts library) where
 
   -- Demand 2.
   pub demand2 : Demand2 library
-  unfolding readOf verifiedOf checkedOf withoutSheet checked checkedFor
+  unfolding readOf verifiedOf checkedOf withoutSheet checked checkedFor preparedOf startOf
   demand2 = record {
     read-accepts = λ bytes a call.
-        let e = contracts .reads-right bytes a call in
-        (λ k. without-accepted (reading bytes) (sym (ap readOf k) ∙ e), λ q. said-one a Said.Accepted (e ∙ ap withoutSheet (q .1)));
+        let e = contracts .read-contract bytes a call in
+        (λ k. without-accepted (reading bytes) (sym (ap readOf k) ∙ e), λ q. same-answer a Said.Accepted (e ∙ ap withoutSheet (q .1)));
     read-refuses = λ bytes a call r.
-        let e = contracts .reads-right bytes a call in
-        (λ k. without-refused (reading bytes) (numberOf r) (sym (ap readOf k) ∙ e), λ q. said-one a (Said.Refused r) (e ∙ ap withoutSheet q));
+        let e = contracts .read-contract bytes a call in
+        (λ k. without-refused (reading bytes) (numberOf r) (sym (ap readOf k) ∙ e), λ q. same-answer a (Said.Refused r) (e ∙ ap withoutSheet q));
     verify-refuses = λ bytes budget old a memory call enough r.
-        let e = contracts .verifies-right bytes budget old a memory call .0 in (
+        let e = contracts .verify-contract bytes budget old a memory call .0 in (
           λ k. verified-number bytes budget old enough (numberOf r) (sym (ap verifiedOf k) ∙ e),
           λ q. verdict-one a (Verdict.Refused r) (e ∙ ap (λ (v : Verified). v .answer) (verified-refused bytes (numberOf r) q budget old enough)),
         );
     check-refuses = λ bytes shown a call r.
-        let e = contracts .checks-right bytes shown a call in
-        (λ k. checked-refused shown (reading bytes) (numberOf r) (sym (ap checkedOf k) ∙ e), λ q. check-one a (Checked.Refused r) (e ∙ ap (checkedFor shown) q));
+        let e = contracts .check-contract bytes shown a call in
+        (λ k. checked-refused shown (reading bytes) (numberOf r) (sym (ap checkedOf k) ∙ e), λ q. checked-one a (Checked.Refused r) (e ∙ ap (checkedFor shown) q));
+    prepare-accepts = λ bytes heads nodes sets p heads′ nodes′ sets′ call sheet read.
+        prepared-one p (Prepared.Ready (sheetStart sheet)) (contracts .prepare-contract bytes heads nodes sets p heads′ nodes′ sets′ call .0 ∙ ap startOf read);
+    prepare-refuses = λ bytes heads nodes sets p heads′ nodes′ sets′ call r.
+        let e = contracts .prepare-contract bytes heads nodes sets p heads′ nodes′ sets′ call .0 in (
+          λ k. refused-sheet (reading bytes) r (sym (ap preparedOf k) ∙ e),
+          λ q. prepared-one p (Prepared.Refused r) (e ∙ ap startOf q),
+        );
+    check-yes = λ bytes sheet read shown a call.
+        let e = contracts .check-contract bytes shown a call in (
+          λ k. yes-failing bytes sheet read shown (sym e ∙ ap checkedOf k),
+          λ q. checked-one a Checked.Yes (e ∙ ap (checked bytes) (q .3) ∙ failing-yes bytes sheet read (q .0) (q .1) (q .2)),
+        );
     steps-right = λ bytes sheet heads nodes sets start tables. carried-states bytes sheet heads nodes sets start tables;
     actions-right = λ bytes sheet heads nodes sets start tables h at set came. action-told bytes sheet heads nodes sets start tables h at set came;
     ends-right = λ bytes sheet heads nodes sets start tables h at set came. end-told bytes sheet heads nodes sets start tables h at set came;
@@ -258,7 +315,7 @@ module _ (library : Library) (contracts : Contracts library) where
 
     answered : (verifiedOf r ≡ accepted (outcome sheet budget .verdict)) × (memory ≡ written (outcome sheet budget .shown) old)
     answered =
-        let v = contracts .verifies-right bytes budget old r memory (supposed .call) in
+        let v = contracts .verify-contract bytes budget old r memory (supposed .call) in
         let w = verified-accepted bytes sheet read budget old (supposed .enough) in
         (v .0 ∙ ap (λ (x : Verified). x .answer) w, v .1 ∙ ap (λ (x : Verified). x .memory) w)
 
@@ -300,6 +357,9 @@ module _ (library : Library) (contracts : Contracts library) where
 
   pub demand3 : Demand3 library
   demand3 = record {
+    atoms-stand = λ bytes sheet heads nodes sets start tables f t.
+        let m = mem-get noStates (sheetSets sheet) (tested-set f sheet t) in
+        (m .0, tabled bytes sheet heads nodes sets start tables .set-is (m .0) (m .1) ∙ m .2);
     known-exactly = λ bytes sheet heads nodes sets start tables h run p set c. carried-known bytes sheet heads nodes sets start tables h set c;
     verdict = λ bytes sheet budget old r memory supposed. demand3-verdict bytes sheet budget old r memory supposed;
   }

@@ -89,22 +89,22 @@ code = record {
 
 contracts : Contracts code
 contracts = record {
-  reads-right = λ bytes r c. c .4 ∙ ap (λ (b : List ℕ). withoutSheet (reading b)) (c .3);
-  prepares-right = λ bytes heads nodes sets r heads′ nodes′ sets′ c.
+  read-contract = λ bytes r c. c .4 ∙ ap (λ (b : List ℕ). withoutSheet (reading b)) (c .3);
+  prepare-contract = λ bytes heads nodes sets r heads′ nodes′ sets′ c.
       let l = c .10 in (
         l .0 ∙ ap (λ (b : List ℕ). startOf (reading b)) (c .3),
         sym (c .7) ∙ l .1 ∙ (λ i. prepared sheetHeads (reading (c .3 i)) (c .4 i)),
         sym (c .8) ∙ l .2 ∙ (λ i. prepared nodeCells (reading (c .3 i)) (c .5 i)),
         sym (c .9) ∙ l .3 ∙ (λ i. prepared setWords (reading (c .3 i)) (c .6 i)),
       );
-  settles-right = λ nodes sets set at r c. c .7 .0 ∙ (λ i. settled (c .3 i) (c .4 i) (c .5 i) (c .6 i));
-  steps-right = λ heads sets set a q r c. c .8 ∙ (λ i. stepped (c .3 i) (c .4 i) (c .5 i) (c .6 i) (c .7 i));
-  knows-right = λ sets k set r c. c .6 ∙ (λ i. knownBy (c .3 i) (c .5 i) (c .4 i));
-  verifies-right = λ bytes budget old r memory c.
+  settle-contract = λ nodes sets set at r c. c .7 .0 ∙ (λ i. settled (c .3 i) (c .4 i) (c .5 i) (c .6 i));
+  step-contract = λ heads sets set a q r c. c .8 ∙ (λ i. stepped (c .3 i) (c .4 i) (c .5 i) (c .6 i) (c .7 i));
+  known-contract = λ sets k set r c. c .6 ∙ (λ i. knownBy (c .3 i) (c .5 i) (c .4 i));
+  verify-contract = λ bytes budget old r memory c.
       let same : verified (now (c .1 .0)) (c .1 .1 .0) (now (c .1 .1 .1 .0)) ≡ verified bytes budget old = λ i. verified (c .3 i) (c .4 i) (c .5 i) in
       let l = c .7 in
       (l .0 ∙ ap (λ (v : Verified). v .answer) same, sym (c .6) ∙ l .1 ∙ ap (λ (v : Verified). v .memory) same);
-  checks-right = λ bytes shown r c. c .5 ∙ (λ i. checked (c .3 i) (c .4 i));
+  check-contract = λ bytes shown r c. c .5 ∙ (λ i. checked (c .3 i) (c .4 i));
 }
 
 -- The demands hold of it.

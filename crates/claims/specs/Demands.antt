@@ -7,20 +7,39 @@ use mathlib.Core.Bool.{Bool, true}
 use lib.ListN.{length, take, drop}
 use Rattle.states.specs.declared.States.{States}
 use Rattle.states.specs.Sets.{member, setOf}
-use Rattle.reader.specs.Syntax.{Objective, Sheet}
+use Rattle.reader.specs.Syntax.{Objective, Epistemic, known, not-known, all-of, any-of, Program, end, act, branch, Sheet}
 use Rattle.reader.specs.Truth.{holds}
 use Rattle.reader.specs.Format.{accepted, refused, reading}
 use Rattle.reader.specs.declared.refusal.Refusal.{Refusal}
 use Rattle.reader.specs.declared.sheet.Answer.{Answer as Said}
-use Rattle.reader.specs.Answers.{numberOf}
+use Rattle.reader.specs.Answers.{numberOf, answerOf as readOf, withoutSheet}
 use Rattle.semantics.specs.Runs.{Entry, History, extended, IsRun, lastState, Holds}
 use Rattle.semantics.specs.Routine.{routine, Follows, isFull, Failing}
-use Rattle.semantics.specs.Verdict.{historyCount, trace, TraceBefore}
+use Rattle.semantics.specs.Verdict.{historyCount, trace, TraceBefore, verified}
+use Rattle.semantics.specs.Checker.{checked}
 use Rattle.routine.specs.declared.sheet.Prepared.{Prepared}
-use Rattle.routine.specs.Memory.{setAt}
+use Rattle.routine.specs.Memory.{headMost, nodeMost, setMost, setAt}
+use Rattle.routine.specs.Tables.{sheetStart}
 use Rattle.progression.specs.declared.place.Place.{Place}
 use Rattle.verifier.specs.declared.verdict.Verdict.{Verdict}
+use Rattle.verifier.specs.Answers.{answerOf as verifiedOf}
 use Rattle.checker.specs.declared.Checked.{Checked}
+use Rattle.checker.specs.Shown.{answerOf as checkedOf}
+
+-- An objective formula is that of an atom, "known" or "not known", of an epistemic formula; an epistemic formula is a condition of a program.
+unfoldable pub Atom : Objective → Epistemic → Type 0
+Atom f (known g) = f ≡ g
+Atom f (not-known g) = f ≡ g
+Atom f (all-of a b) = Atom f a ⊎ Atom f b
+Atom f (any-of a b) = Atom f a ⊎ Atom f b
+
+unfoldable pub Condition : Epistemic → Program → Type 0
+Condition e end = ⊥
+Condition e (act a rest) = Condition e rest
+Condition e (branch c y z rest) = (e ≡ c) ⊎ (Condition e y ⊎ (Condition e z ⊎ Condition e rest))
+
+unfoldable pub Tested : Objective → Sheet → Type 0
+Tested f sheet = Atom f (sheet .goal) ⊎ ((e : Epistemic) × Condition e (sheet .program) × Atom f e)
 
 -- What a call of each function may give back: by the values of its arguments, its result and, where memory is lent to be written, what that holds before and after.
 pub record Library : Type 1 where
@@ -33,15 +52,15 @@ pub record Library : Type 1 where
   pub checks : (bytes shown : List ℕ) → Checked → Type 0
 
 module _ (library : Library) where
-  -- The tables of a sheet, made in memory of the right size.
+  -- The tables of a sheet, made in memory of the right size: so many heads of three numbers, nodes of four and sets of four words.
   pub record Prepares (bytes : List ℕ) (sheet : Sheet) (heads nodes sets : List ℕ) (start : States) : Type 0 where
     pub read : reading bytes ≡ accepted sheet
     pub heads₀ : List ℕ
     pub nodes₀ : List ℕ
     pub sets₀ : List ℕ
-    pub heads-long : length heads₀ ≡ 93
-    pub nodes-long : length nodes₀ ≡ 8192
-    pub sets-long : length sets₀ ≡ 40960
+    pub heads-long : length heads₀ ≡ 3 * headMost
+    pub nodes-long : length nodes₀ ≡ 4 * nodeMost
+    pub sets-long : length sets₀ ≡ 4 * setMost
     pub made : library .prepares bytes heads₀ nodes₀ sets₀ (Prepared.Ready start) heads nodes sets
 
   -- The set that calls of `step` make along a history, from the start set on.
@@ -51,10 +70,10 @@ module _ (library : Library) where
         → Carried heads sets start actions (extended h a r) next
 
   -- The place and the set to which calls of `settle` and `step` come by a history, from the first node and the start set on.
-  pub data Came (heads nodes sets : List ℕ) (start : States) : History → (at : ℕ) → States → Type 0 where
-    first : Came heads nodes sets start [] 0 start
-    further : (h : History) (at : ℕ) (set : States) (node a r : ℕ) (next : States) → Came heads nodes sets start h at set → library .settles nodes sets set at (Place.Act node a)
-        → library .steps heads sets set a r next → Came heads nodes sets start (extended h a r) (node + 1) next
+  pub data Reaches (heads nodes sets : List ℕ) (start : States) : History → (at : ℕ) → States → Type 0 where
+    first : Reaches heads nodes sets start [] 0 start
+    further : (h : History) (at : ℕ) (set : States) (node a r : ℕ) (next : States) → Reaches heads nodes sets start h at set → library .settles nodes sets set at (Place.Act node a)
+        → library .steps heads sets set a r next → Reaches heads nodes sets start (extended h a r) (node + 1) next
 
   -- Demand 1, of the verifier.
   pub record Demand1 : Type 0 where
@@ -64,9 +83,18 @@ module _ (library : Library) where
         → ((memory ≡ old) × ((c l : ℕ) → r ≡ Verdict.Invalid c l → ⊥))
         ⊎ ((sheet : Sheet) × (h : History) × (run : List ℕ) × (reading bytes ≡ accepted sheet) × Failing sheet h run × (r ≡ Verdict.Invalid (historyCount sheet) (length h))
         × (memory ≡ trace h run ++ drop (length (trace h run)) old) × (length memory ≡ length old))
-    -- "With an answer that document 01 fixes": the same call gets the same answer. ("Every call ends": proofs/Ends.antt.)
-    pub answer-fixed : (bytes : List ℕ) (budget : ℕ) (old : List ℕ) (r q : Verdict) (memory other : List ℕ) → library .verifies bytes budget old r memory → library .verifies bytes budget old q other
-        → (r ≡ q) × (memory ≡ other)
+    -- ".. with an answer that document 01 fixes": the one that the definitions give, with document 01's numbers and values; so the same call gets the same.
+    -- ("Every call ends": proofs/Ends.antt.)
+    pub read-fixed : (bytes : List ℕ) (a : Said) → library .reads bytes a → readOf a ≡ withoutSheet (reading bytes)
+    pub verify-fixed : (bytes : List ℕ) (budget : ℕ) (old : List ℕ) (r : Verdict) (memory : List ℕ) → library .verifies bytes budget old r memory
+        → (verifiedOf r ≡ verified bytes budget old .answer) × (memory ≡ verified bytes budget old .memory)
+    pub check-fixed : (bytes shown : List ℕ) (a : Checked) → library .checks bytes shown a → checkedOf a ≡ checked bytes shown
+    -- What an answer means tells the answer: no two answers have the same number and values.
+    pub verify-one : (r q : Verdict) → verifiedOf r ≡ verifiedOf q → r ≡ q
+    pub check-one : (a b : Checked) → checkedOf a ≡ checkedOf b → a ≡ b
+    -- 30 for "trace memory under 129 bytes (before anything else)".
+    pub short-first : (bytes : List ℕ) (budget : ℕ) (old : List ℕ) (r : Verdict) (memory : List ℕ) → library .verifies bytes budget old r memory
+        → length old < 129 → (r ≡ Verdict.ShortMemory) × (memory ≡ old)
 
   -- Demand 2.
   pub record Demand2 : Type 0 where
@@ -77,6 +105,14 @@ module _ (library : Library) where
     pub verify-refuses : (bytes : List ℕ) (budget : ℕ) (old : List ℕ) (a : Verdict) (memory : List ℕ) → library .verifies bytes budget old a memory → 129 ≤ length old
         → (r : Refusal) → (a ≡ Verdict.Refused r) ↔ (reading bytes ≡ refused (numberOf r))
     pub check-refuses : (bytes shown : List ℕ) (a : Checked) → library .checks bytes shown a → (r : Refusal) → (a ≡ Checked.Refused r) ↔ (reading bytes ≡ refused (numberOf r))
+    -- The tables are made of every accepted sheet, and of no other.
+    pub prepare-accepts : (bytes heads nodes sets : List ℕ) (p : Prepared) (heads′ nodes′ sets′ : List ℕ) → library .prepares bytes heads nodes sets p heads′ nodes′ sets′
+        → (sheet : Sheet) → reading bytes ≡ accepted sheet → p ≡ Prepared.Ready (sheetStart sheet)
+    pub prepare-refuses : (bytes heads nodes sets : List ℕ) (p : Prepared) (heads′ nodes′ sets′ : List ℕ) → library .prepares bytes heads nodes sets p heads′ nodes′ sets′
+        → (r : Refusal) → (p ≡ Prepared.Refused r) ↔ (reading bytes ≡ refused (numberOf r))
+    -- The checker "says yes if and only if the trace is a full run following the routine whose history fails the goal".
+    pub check-yes : (bytes : List ℕ) (sheet : Sheet) → reading bytes ≡ accepted sheet → (shown : List ℕ) (a : Checked) → library .checks bytes shown a
+        → (a ≡ Checked.Yes) ↔ ((h : History) × (run : List ℕ) × Failing sheet h run × (shown ≡ trace h run))
     -- "Its steps are worked out": the set that is carried along a history has exactly the last states of the runs with that history.
     pub steps-right : (bytes : List ℕ) (sheet : Sheet) (heads nodes sets : List ℕ) (start : States) → Prepares bytes sheet heads nodes sets start
         → (h : History) (set : States) → Carried heads sets start (length (sheet .actions)) h set
@@ -84,13 +120,14 @@ module _ (library : Library) where
     -- "Its knowledge tests": the conditions that lie on the way are decided as the routine's, so that the action told is the one that comes next in every run that
     -- follows the routine; and at the end the goal's test tells whether the goal holds after the history.
     pub actions-right : (bytes : List ℕ) (sheet : Sheet) (heads nodes sets : List ℕ) (start : States) → Prepares bytes sheet heads nodes sets start
-        → (h : History) (at : ℕ) (set : States) → Came heads nodes sets start h at set → (node a : ℕ) → library .settles nodes sets set at (Place.Act node a)
+        → (h : History) (at : ℕ) (set : States) → Reaches heads nodes sets start h at set → (node a : ℕ) → library .settles nodes sets set at (Place.Act node a)
         → Follows (routine sheet) h × ((r : ℕ) → Follows (routine sheet) (extended h a r)) × ((e : Entry) (g : History) → Follows (routine sheet) (h ++ (e ∷ g)) → e .action ≡ a)
     pub ends-right : (bytes : List ℕ) (sheet : Sheet) (heads nodes sets : List ℕ) (start : States) → Prepares bytes sheet heads nodes sets start
-        → (h : History) (at : ℕ) (set : States) → Came heads nodes sets start h at set → (goal : Bool) → library .settles nodes sets set at (Place.End goal)
+        → (h : History) (at : ℕ) (set : States) → Reaches heads nodes sets start h at set → (goal : Bool) → library .settles nodes sets set at (Place.End goal)
         → Follows (routine sheet) h × (isFull (routine sheet) h ≡ true) × ((goal ≡ true) ↔ Holds sheet h (sheet .goal))
 
   -- Demand 3, of the verdict: "Suppose a sheet is accepted, the trace memory is long enough and the budget is at least document 01's count, which the answer carries."
+  -- (The budget is supposed where a sentence needs it.)
   module _ (bytes : List ℕ) (sheet : Sheet) (budget : ℕ) (old : List ℕ) (r : Verdict) (memory : List ℕ) where
     pub record Supposed : Type 0 where
       pub read : reading bytes ≡ accepted sheet
@@ -109,7 +146,10 @@ module _ (library : Library) where
       pub stopped-exactly : (r ≡ Verdict.Stopped budget) ↔ (budget < historyCount sheet)
 
   pub record Demand3 : Type 0 where
-    -- "A formula is known after a run exactly when it is true at the end of every run alike in actions and replies": the test of a formula, after the history of a run.
+    -- "A formula is known after a run exactly when it is true at the end of every run alike in actions and replies": the test of a formula that stands as set k of the
+    -- tables, after the history of a run. Every formula of an atom of the goal or of a condition stands there.
+    pub atoms-stand : (bytes : List ℕ) (sheet : Sheet) (heads nodes sets : List ℕ) (start : States) → Prepares bytes sheet heads nodes sets start
+        → (f : Objective) → Tested f sheet → (k : ℕ) × (setAt sets k ≡ setOf (λ s. holds f s))
     pub known-exactly : (bytes : List ℕ) (sheet : Sheet) (heads nodes sets : List ℕ) (start : States) → Prepares bytes sheet heads nodes sets start
         → (h : History) (run : List ℕ) → IsRun sheet h run → (set : States) → Carried heads sets start (length (sheet .actions)) h set
         → (k : ℕ) (f : Objective) → setAt sets k ≡ setOf (λ s. holds f s) → (b : Bool) → library .knows sets k set b

@@ -25,7 +25,7 @@ placeNumber (Place.End false) = 0
 placeNumber (Place.End true) = 1
 placeNumber (Place.Act node action) = 2 + 65536 * node + action
 
--- A verdict as three numbers.
+-- A verdict as three numbers: 0 and the count for "valid", 1, the count and the length for "invalid", 2 and the budget for "stopped".
 unfoldable pub verdictNumbers : Verdict → List ℕ
 verdictNumbers (valid c) = 0 ∷ c ∷ 0 ∷ []
 verdictNumbers (invalid c l) = 1 ∷ c ∷ l ∷ []

@@ -1,7 +1,7 @@
 -- Laws of tests and of lists: what a test tells, and who is a member. Assumes nothing.
 use Prim.Native.Nat.{ℕ, zero, suc, _+_, _≤_, _<_}
 use mathlib.Core.Path.{_≡_, refl, sym, ap, ap₂, subst, _∙_}
-use mathlib.Core.List.{List, [], _∷_, _++_, map, flatMap, List·Memᴰ, List·Memᴰ·head, List·Memᴰ·tail, List·Memᴰ·not-nil, List·Memᴰ·cases-cons, List·Memᴰ·append-cases, Memᴰ·append-left, Memᴰ·append-right}
+use mathlib.Core.List.{List, [], _∷_, _++_, map, flatMap, headD, List·Memᴰ, List·Memᴰ·head, List·Memᴰ·tail, List·Memᴰ·not-nil, List·Memᴰ·cases-cons, List·Memᴰ·append-cases, Memᴰ·append-left, Memᴰ·append-right}
 use mathlib.Core.Logic.{_⊎_, inl, inr, ⊎-elim}
 use mathlib.Core.Bool.{Bool, true, false, not, _&&_, _||_}
 use native.Mathlib.Omega.{arith}
@@ -218,3 +218,64 @@ pub made-same : {A : Type 0} (f g : ℕ → A) (a k : ℕ) → ((s : ℕ) → s 
 unfolding upFrom
 made-same f g a zero e = refl
 made-same f g a (suc k) e = ap₂ (λ (x : _) (xs : List _). x ∷ xs) (e a (omega arith)) (made-same f g (suc a) k (λ s l. e s (omega arith)))
+
+-- Lists laid end to end, and mapped: whether there is an element, and the first one.
+module _ {A : Type 0} where
+  pub some-append : (xs ys : List A) → nonempty (xs ++ ys) ≡ (nonempty xs || nonempty ys)
+  unfolding nonempty
+  some-append [] ys = refl
+  some-append (x ∷ xs) ys = refl
+
+  pub head-append : (d : A) (xs ys : List A) → nonempty xs ≡ true → headD (xs ++ ys) d ≡ headD xs d
+  unfolding nonempty headD
+  head-append d [] ys e = not-both e refl
+  head-append d (x ∷ xs) ys e = refl
+
+  pub none-append : (xs ys : List A) → nonempty xs ≡ false → xs ++ ys ≡ ys
+  unfolding nonempty
+  none-append [] ys e = refl
+  none-append (x ∷ xs) ys e = not-both refl e
+
+module _ {A B : Type 0} where
+  pub some-flat : (f : A → List B) (xs : List A) → nonempty (flatMap f xs) ≡ exists (λ x. nonempty (f x)) xs
+  unfolding flatMap exists nonempty
+  some-flat f [] = refl
+  some-flat f (x ∷ xs) = some-append (f x) (flatMap f xs) ∙ ap (λ (b : Bool). nonempty (f x) || b) (some-flat f xs)
+
+  pub some-map : (g : A → B) (xs : List A) → nonempty (map g xs) ≡ nonempty xs
+  unfolding nonempty
+  some-map g [] = refl
+  some-map g (x ∷ xs) = refl
+
+  pub head-map : (g : A → B) (d : A) (b : B) (xs : List A) → nonempty xs ≡ true → headD (map g xs) b ≡ g (headD xs d)
+  unfolding nonempty headD
+  head-map g d b [] e = not-both e refl
+  head-map g d b (x ∷ xs) e = refl
+
+-- What is kept of what was kept.
+pub keep-keep : {A : Type 0} (test kept : A → Bool) (xs : List A) → keep test (keep kept xs) ≡ keep (λ x. kept x && test x) xs
+unfolding keep if_then_else_
+keep-keep test kept [] = refl
+keep-keep test kept (x ∷ xs) = go (kept x) (test x) refl (keep-keep test kept xs)
+  where
+    go : (b t : Bool) → test x ≡ t → keep test (keep kept xs) ≡ keep (λ y. kept y && test y) xs
+        → keep test (if b then x ∷ keep kept xs else keep kept xs) ≡ (if b && t then x ∷ keep (λ y. kept y && test y) xs else keep (λ y. kept y && test y) xs)
+    go true true e h = rw (e, h)
+    go true false e h = rw (e, h)
+    go false t e h = h
+
+-- Something is kept where an element passes the test.
+pub nonempty-keep : {A : Type 0} (p : A → Bool) (xs : List A) → nonempty (keep p xs) ≡ exists p xs
+unfolding nonempty keep exists
+nonempty-keep p [] = refl
+nonempty-keep p (x ∷ xs) = go (p x) (nonempty-keep p xs)
+  where
+    go : (b : Bool) → nonempty (keep p xs) ≡ exists p xs → nonempty (if b then x ∷ keep p xs else keep p xs) ≡ (b || exists p xs)
+    go true h = refl
+    go false h = h
+
+-- Where no element passes a test, there is none that does.
+pub exists-none : {A : Type 0} (test : A → Bool) (xs : List A) → ((a : A) → List·Memᴰ a xs → test a ≡ false) → exists test xs ≡ false
+unfolding exists
+exists-none test [] h = refl
+exists-none test (x ∷ xs) h = rw (h x (List·Memᴰ·head refl), exists-none test xs (λ a m. h a (List·Memᴰ·tail m)))

@@ -1,9 +1,9 @@
 -- What the parts of `print` write.
 use Prim.Native.Nat.{ℕ, _+_, _≤_}
 use mathlib.Core.Path.{_≡_}
-use mathlib.Core.List.{List, _∷_, _++_}
+use mathlib.Core.List.{List, _++_}
 use lib.ListN.{length}
-use Rattle.semantics.specs.Printing.{space, decimal}
+use Rattle.semantics.specs.Printing.{decimal, behindSpace}
 use Rattle.routine.specs.Memory.{write}
 use Rattle.verifier.specs.declared.verdict.Verdict.{Verdict}
 
@@ -15,9 +15,9 @@ pub record Put (before after : List ℕ) (at behind : ℕ) (bytes : List ℕ) : 
 -- A word, a space and a number.
 unfoldable pub behindWord : (word : List ℕ) (n : ℕ) → List ℕ
 unfolding decimal
-behindWord word n = word ++ (space ∷ decimal n)
+behindWord word n = word ++ behindSpace n
 
--- A trace of at most 64 actions is shown.
+-- A verdict whose trace, if it has one, is of at most 64 actions.
 unfoldable pub Printable : Verdict → Type 0
 Printable (Verdict.Valid c) = Unit {0}
 Printable (Verdict.Invalid c l) = l ≤ 64

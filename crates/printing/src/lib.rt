@@ -1,5 +1,5 @@
 // The lines that planverify prints.
-use verifier::TRACE;
+use routine::TRACE;
 use verifier::Verdict;
 use verifier::verify;
 ghost use mathlib.Core.Path.{_≡_};

@@ -1,11 +1,10 @@
 -- One step on the tables of a sheet is one step of the set of possible states.
-use Prim.Native.Nat.{ℕ, _+_, _^_, _<_, _≤_}
+use Prim.Native.Nat.{ℕ, _+_, _<_, _≤_}
 use mathlib.Core.Path.{_≡_, refl, ap, sym, _∙_}
 use mathlib.Core.List.{List}
 use mathlib.Core.Logic.{⊎-elim}
 use mathlib.Core.Bool.{Bool, true, false, _&&_}
 use native.Mathlib.Omega.{arith}
-use lib.Pow.{pow-mono}
 use lib.Dec.{ltb, eqb}
 use lib.ListN.{length, getD}
 use borrow.Author.Tests.{ltb-true, ltb-false, eqb-true, eq-eqb}
@@ -16,7 +15,7 @@ use Rattle.states.specs.Sets.{member, setOf, members}
 use Rattle.states.proofs.SetLaws.{member-setOf, member-above, set-cong, members-setOf}
 use Rattle.reader.specs.Syntax.{Action, change, probe, replyCount, Sheet, actionOf}
 use Rattle.reader.specs.Truth.{isState, states, truth, moves, answers, allowed}
-use Rattle.reader.proofs.StateLaws.{state-below, state-listed, answer-exists}
+use Rattle.reader.proofs.StateLaws.{state-byte, state-listed, answer-exists}
 use Rattle.reader.proofs.StageLaws.{space-states}
 use Rattle.semantics.specs.Runs.{Entry, entry, History, step}
 use Rattle.semantics.specs.Progression.{possible, startSet, nextSet, setAfter}
@@ -27,12 +26,6 @@ use Rattle.routine.specs.Tables.{rows}
 use Rattle.routine.proofs.TableLaws.{noStates, headOf, firstSet, Tabled, row-is, reply-is}
 use Rattle.progression.specs.Machine.{gathered, effect, stepped}
 use Rattle.progression.proofs.GatherLaws.{effect-rows, effect-none}
-
--- The states of a sheet are bytes.
-pub state-byte : (sheet : Sheet) → sheet .facts ≤ 8 → (s : ℕ) → isState sheet s ≡ true → s < 256
-state-byte sheet few s t =
-    let h : 2 ^ sheet .facts ≤ 2 ^ 8 = pow-mono few in
-    omega (arith, h, state-below sheet s t)
 
 -- Where the sets of an action stand: its rows and its reply tables.
 module _ (sheet : Sheet) (few : sheet .facts ≤ 8) (sets : List ℕ) (k : ℕ) (possible-before : ℕ → Bool) (inside : (s : ℕ) → possible-before s ≡ true → isState sheet s ≡ true) where

@@ -9,7 +9,7 @@ use Rattle.reader.specs.declared.refusal.Refusal.{Refusal}
 use Rattle.reader.specs.declared.sheet.Answer.{Answer as Said}
 
 -- The refusal of a number.
-refusalOf : ℕ → Refusal
+pub refusalOf : ℕ → Refusal
 refusalOf k =
     if eqb k 1 then Refusal.Length
     else if eqb k 2 then Refusal.Cut
@@ -27,7 +27,7 @@ refusalOf k =
     else if eqb k 14 then Refusal.NoNext
     else Refusal.NoReply
 
-number-refusal : (r : Refusal) → refusalOf (numberOf r) ≡ r
+pub number-refusal : (r : Refusal) → refusalOf (numberOf r) ≡ r
 unfolding refusalOf numberOf if_then_else_
 number-refusal Refusal.Length = refl
 number-refusal Refusal.Cut = refl

@@ -1,10 +1,11 @@
 -- Laws of states, of replies, and of what a theory leaves free. Assumes nothing.
-use Prim.Native.Nat.{ℕ, _<_, _^_}
+use Prim.Native.Nat.{ℕ, _<_, _≤_, _^_}
 use mathlib.Core.Path.{_≡_, refl, ap}
 use mathlib.Core.List.{List·Memᴰ}
 use mathlib.Core.Bool.{true, not, _||_}
 use native.Mathlib.Omega.{arith}
 use native.Mathlib.Decide.{decLt}
+use lib.Pow.{pow-mono}
 use lib.ListN.{length, List·getD-eq-default}
 use borrow.Author.Tests.{eqb-true, eq-eqb, ltb-true}
 use Rattle.lists.specs.Lists.{below, Sorted}
@@ -18,6 +19,10 @@ module _ (sheet : Sheet) where
   pub state-below : (s : ℕ) → isState sheet s ≡ true → s < 2 ^ sheet .facts
   unfolding isState
   state-below s e = ltb-true s (2 ^ sheet .facts) e
+
+  -- A state over at most 8 facts is a byte.
+  pub state-byte : sheet .facts ≤ 8 → (s : ℕ) → isState sheet s ≡ true → s < 256
+  state-byte few s e = let h : 2 ^ sheet .facts ≤ 2 ^ 8 = pow-mono few in omega (arith, h, state-below s e)
 
   -- The listed states are the states, and are in order.
   pub listed-state : {s : ℕ} → List·Memᴰ s (states sheet) → isState sheet s ≡ true

@@ -3,8 +3,8 @@ use Prim.Native.Nat.{ℕ, suc, _+_, _*_, _<_, _≤_}
 use mathlib.Core.Path.{_≡_, refl, ap, sym, _∙_}
 use mathlib.Core.List.{List, [], _∷_, _++_, flatMap, append-assoc, append-nil}
 use native.Mathlib.Omega.{arith}
-use lib.ListN.{length, set, length-set, length-append}
-use lib.Seq.{set-comm}
+use lib.ListN.{length, getD, set, length-set, length-append}
+use lib.Seq.{set-comm, getD-set-other}
 use mathlib.Core.Bool.{true, false}
 use Rattle.states.specs.declared.States.{States}
 use Rattle.routine.specs.declared.memory.Node.{Node}
@@ -15,6 +15,12 @@ pub write-length : (xs : List ℕ) (i : ℕ) (ys : List ℕ) → length (write x
 unfolding write
 write-length xs i [] = refl
 write-length xs i (y ∷ ys) = write-length (set xs i y) (i + 1) ys ∙ length-set xs i y
+
+-- What stands behind what is written stays.
+pub write-behind : (xs : List ℕ) (i : ℕ) (ys : List ℕ) (j : ℕ) → i + length ys ≤ j → getD (write xs i ys) j 0 ≡ getD xs j 0
+unfolding write
+write-behind xs i [] j l = refl
+write-behind xs i (y ∷ ys) j l = write-behind (set xs i y) (i + 1) ys j (omega arith) ∙ getD-set-other xs i j y 0 (λ e. omega (arith, e))
 
 write-append : (xs : List ℕ) (i : ℕ) (ys zs : List ℕ) → write xs i (ys ++ zs) ≡ write (write xs i ys) (i + length ys) zs
 unfolding write

@@ -10,6 +10,7 @@ pub use limits::HEAD_CELLS;
 pub use limits::NODE_CELLS;
 pub use limits::NODES;
 pub use limits::SET_WORDS;
+pub use limits::TRACE;
 pub use memory::Head;
 pub use memory::Node;
 pub use memory::head_at;

@@ -14,3 +14,6 @@ pub const NODE_CELLS: usize = 8192;
 pub(crate) const SETS: usize = 10240;
 
 pub const SET_WORDS: usize = 40960;
+
+// The bytes of the longest trace, of 64 actions.
+pub const TRACE: usize = 129;

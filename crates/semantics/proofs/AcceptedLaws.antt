@@ -1,18 +1,17 @@
 -- What holds of every accepted sheet: a run starts, every run that isn't full goes on, and 64 actions and 129 bytes bound every run and its trace. Assumes nothing.
-use Prim.Native.Nat.{ℕ, _+_, _*_, _^_, _≤_, _<_}
+use Prim.Native.Nat.{ℕ, _+_, _*_, _≤_, _<_}
 use mathlib.Core.Path.{_≡_, refl, sym, ap, _∙_}
 use mathlib.Core.Logic.{⊎-elim}
 use mathlib.Core.List.{List, [], _∷_, _++_, map-append, List·Memᴰ, List·Memᴰ·not-nil, List·Memᴰ·cases-cons}
 use mathlib.Core.Bool.{Bool, true, false}
 use native.Mathlib.Omega.{arith}
-use native.Mathlib.Nat.{pow-le-pow-right}
 use lib.ListN.{length, length-map}
 use Rattle.lists.specs.Lists.{exists, below}
 use Rattle.lists.proofs.ListLaws.{not-both, and-both, every-mem, exists-mem, mem-exists}
 use Rattle.reader.specs.Syntax.{Program, end, act, branch, Action, replyCount, Sheet, actionOf}
 use Rattle.reader.specs.Truth.{isState, states, holds, moves, answers, allowed}
 use Rattle.reader.specs.Format.{accepted, reading, hasStart, leadsOn, hasReply}
-use Rattle.reader.proofs.StateLaws.{state-below, listed-state, state-listed}
+use Rattle.reader.proofs.StateLaws.{listed-state, state-listed, state-byte}
 use Rattle.reader.proofs.FormatLaws.{NumbersBelow}
 use Rattle.reader.proofs.SheetLaws.{accepted-shape, accepted-passed, action-mem, few-replies}
 use Rattle.semantics.specs.Runs.{Entry, entry, History, extended, replies, step, Steps, IsRun, lastFrom, lastState, runs, holdsAfter, occurs}
@@ -59,10 +58,6 @@ action-steps sheet a l h s i =
     (y .0, x .0, listed-state sheet (x .1), and-both (moves a s (x .0)) (answers a (y .0) (x .0)) (x .2) (y .2))
 
 module _ (sheet : Sheet) where
-  -- A state over at most 8 facts is a byte.
-  state-byte : (s : ℕ) → sheet .facts ≤ 8 → isState sheet s ≡ true → s < 256
-  state-byte s l i = let q : 2 ^ sheet .facts ≤ 2 ^ 8 = pow-le-pow-right (omega arith) l in omega (arith, state-below sheet s i)
-
   -- The last state of a run is a state.
   steps-last : (s : ℕ) (h : History) (rest : List ℕ) → isState sheet s ≡ true → Steps sheet s h rest → isState sheet (lastFrom s rest) ≡ true
   unfolding Steps lastFrom
@@ -91,7 +86,7 @@ module _ (sheet : Sheet) where
   steps-bytes s (e ∷ h) [] l p f b m = absurd p
   steps-bytes s (e ∷ h) (t ∷ rest) l p f b m =
       ⊎-elim (λ (q : b ≡ e .action * 8 + e .reply). omega (arith, f .0, f .1))
-      (λ k. ⊎-elim (λ (q : b ≡ t). omega (arith, state-byte t l (p .0))) (λ j. steps-bytes t h rest l (p .2) (f .2) b j) (List·Memᴰ·cases-cons k))
+      (λ k. ⊎-elim (λ (q : b ≡ t). omega (arith, state-byte sheet l t (p .0))) (λ j. steps-bytes t h rest l (p .2) (f .2) b j) (List·Memᴰ·cases-cons k))
       (List·Memᴰ·cases-cons m)
 
   -- Behind the start state a trace has two bytes an entry.
@@ -165,7 +160,7 @@ module _ (bytes : List ℕ) (sheet : Sheet) (read : reading bytes ≡ accepted s
   trace-bytes h [] f b m = absurd (f .0)
   trace-bytes h (s ∷ rest) f b m =
       let l = accepted-shape bytes sheet read .facts-most in
-      ⊎-elim (λ (q : b ≡ s). omega (arith, state-byte sheet s l (f .0 .0))) (λ k. steps-bytes sheet s h rest l (f .0 .2) (entries-fit h (s ∷ rest) f) b k) (List·Memᴰ·cases-cons m)
+      ⊎-elim (λ (q : b ≡ s). omega (arith, state-byte sheet l s (f .0 .0))) (λ k. steps-bytes sheet s h rest l (f .0 .2) (entries-fit h (s ∷ rest) f) b k) (List·Memᴰ·cases-cons m)
 
   -- Where an action is told, some further reply is accepted: the action told does come next in some longer run.
   pub told-goes-on : (rs : List ℕ) (a : ℕ) → RepliesOfRun sheet rs → told sheet rs ≡ to-do a → (r : ℕ) × RepliesOfRun sheet (rs ++ (r ∷ []))

@@ -8,55 +8,23 @@ use lib.Dec.{ltb}
 use lib.ListN.{length, List·getD-eq-default}
 use borrow.Author.Tests.{ltb-true, ltb-false}
 use Rattle.lists.specs.Lists.{if_then_else_, below, exists, keep, nonempty}
-use Rattle.lists.proofs.ListLaws.{same-test, not-both, both-true, and-both, exists-mem, mem-exists, exists-keep, keep-same, keep-mem, keep-within, upFrom-mem, mem-upFrom}
+use Rattle.lists.proofs.ListLaws.{same-test, not-both, both-true, and-both, exists-mem, mem-exists, exists-keep, keep-same, keep-mem, keep-within, upFrom-mem, mem-upFrom, head-append, none-append, some-flat, some-map, head-map, keep-keep}
 use Rattle.states.specs.declared.States.{States}
 use Rattle.states.specs.Sets.{member, setOf, members, leastOf}
 use Rattle.states.proofs.SetLaws.{member-setOf, members-setOf}
 use Rattle.reader.specs.Syntax.{probe, replyCount, Sheet, actionOf}
 use Rattle.reader.specs.Truth.{isState, states, holds}
-use Rattle.reader.proofs.StateLaws.{listed-state, state-listed}
+use Rattle.reader.proofs.StateLaws.{listed-state, state-listed, state-byte}
 use Rattle.reader.proofs.StageLaws.{space-states}
 use Rattle.semantics.specs.Runs.{Entry, History, step, startStates, nextStates, runsFrom, runs, occurs}
 use Rattle.semantics.specs.Verdict.{leastRun}
 use Rattle.semantics.proofs.RunLaws.{Replied, occurs-run, run-replied}
 use Rattle.routine.specs.Tables.{sheetStart}
 use Rattle.routine.proofs.TableLaws.{Tabled}
-use Rattle.progression.proofs.StepLaws.{state-byte, single-set}
+use Rattle.progression.proofs.StepLaws.{single-set}
 use Rattle.verifier.specs.Least.{after, back, feasible, leastOn, leastStates}
 
--- Lists laid end to end: whether there is an element, and the first one, which is that of the first list that has one.
-module _ {A : Type 0} where
-  some-append : (xs ys : List A) → nonempty (xs ++ ys) ≡ (nonempty xs || nonempty ys)
-  unfolding nonempty
-  some-append [] ys = refl
-  some-append (x ∷ xs) ys = refl
-
-  head-append : (d : A) (xs ys : List A) → nonempty xs ≡ true → headD (xs ++ ys) d ≡ headD xs d
-  unfolding nonempty headD
-  head-append d [] ys e = not-both e refl
-  head-append d (x ∷ xs) ys e = refl
-
-  none-append : (xs ys : List A) → nonempty xs ≡ false → xs ++ ys ≡ ys
-  unfolding nonempty
-  none-append [] ys e = refl
-  none-append (x ∷ xs) ys e = not-both refl e
-
-module _ {A B : Type 0} where
-  some-flat : (f : A → List B) (xs : List A) → nonempty (flatMap f xs) ≡ exists (λ x. nonempty (f x)) xs
-  unfolding flatMap exists nonempty
-  some-flat f [] = refl
-  some-flat f (x ∷ xs) = some-append (f x) (flatMap f xs) ∙ ap (λ (b : Bool). nonempty (f x) || b) (some-flat f xs)
-
-  some-map : (g : A → B) (xs : List A) → nonempty (map g xs) ≡ nonempty xs
-  unfolding nonempty
-  some-map g [] = refl
-  some-map g (x ∷ xs) = refl
-
-  head-map : (g : A → B) (d : A) (b : B) (xs : List A) → nonempty xs ≡ true → headD (map g xs) b ≡ g (headD xs d)
-  unfolding nonempty headD
-  head-map g d b [] e = not-both e refl
-  head-map g d b (x ∷ xs) e = refl
-
+-- The first element of lists laid end to end is that of the first that has one.
 head-flat : {B : Type 0} (f : ℕ → List B) (d : B) (xs : List ℕ) → exists (λ x. nonempty (f x)) xs ≡ true
     → headD (flatMap f xs) d ≡ headD (f (leastOf (keep (λ x. nonempty (f x)) xs))) d
 unfolding flatMap exists keep leastOf if_then_else_
@@ -68,17 +36,6 @@ head-flat f d (x ∷ xs) e = go (nonempty (f x)) refl e (λ k. head-flat f d xs 
         → headD (f x ++ flatMap f xs) d ≡ headD (f (leastOf (if b then x ∷ keep (λ y. nonempty (f y)) xs else keep (λ y. nonempty (f y)) xs))) d
     go true p q deeper = head-append d (f x) (flatMap f xs) p
     go false p q deeper = ap (λ (zs : List _). headD zs d) (none-append (f x) (flatMap f xs) p) ∙ deeper q
-
-keep-keep : {A : Type 0} (test kept : A → Bool) (xs : List A) → keep test (keep kept xs) ≡ keep (λ x. kept x && test x) xs
-unfolding keep if_then_else_
-keep-keep test kept [] = refl
-keep-keep test kept (x ∷ xs) = go (kept x) (test x) refl (keep-keep test kept xs)
-  where
-    go : (b t : Bool) → test x ≡ t → keep test (keep kept xs) ≡ keep (λ y. kept y && test y) xs
-        → keep test (if b then x ∷ keep kept xs else keep kept xs) ≡ (if b && t then x ∷ keep (λ y. kept y && test y) xs else keep (λ y. kept y && test y) xs)
-    go true true e h = rw (e, h)
-    go true false e h = rw (e, h)
-    go false t e h = h
 
 -- The first that passes a test passes it, if one does.
 first-passes : (test : ℕ → Bool) (xs : List ℕ) → exists test xs ≡ true → List·Memᴰ (leastOf (keep test xs)) (keep test xs)

@@ -1,17 +1,17 @@
 -- Laws of the least run along a path: one entry back, the sets that are kept for its places, and the trace that is shown. Assumes nothing.
 use Prim.Native.Nat.{ℕ, suc, _+_, _-_, _*_, _/_, _%_, _≤_, _<_}
 use mathlib.Core.Path.{_≡_, refl, sym, ap, ap₂, subst, _∙_}
-use mathlib.Core.List.{List, [], _∷_, _++_, append-nil, append-assoc, List·Memᴰ, List·Memᴰ·head, List·Memᴰ·tail}
+use mathlib.Core.List.{List, [], _∷_, _++_, append-nil, append-assoc}
 use mathlib.Core.Bool.{Bool, true, false, not, _&&_, _||_}
 use native.Mathlib.Omega.{arith}
 use native.Mathlib.Decide.{ℕ-discrete}
 use native.Mathlib.Numerals.{add-one}
 use lib.Dec.{ltb, eqb}
 use lib.ListN.{length, getD, take, drop, set, length-set, take-append-drop}
-use lib.Seq.{getD-set-other, take-suc-set, drop-set-lt, drop-drop, length-take-le}
+use lib.Seq.{take-suc-set, drop-set-lt, drop-drop, length-take-le}
 use borrow.Author.Tests.{lt-ltb, le-ltb, eq-eqb, ne-eqb, ltb-true, ltb-false, eqb-true}
-use Rattle.lists.specs.Lists.{if_then_else_, below, exists, keep, nonempty}
-use Rattle.lists.proofs.ListLaws.{or-none, same-test, both-true, and-both, exists-same, exists-mem, mem-exists, upFrom-mem, mem-upFrom}
+use Rattle.lists.specs.Lists.{below, exists, nonempty}
+use Rattle.lists.proofs.ListLaws.{or-none, same-test, both-true, and-both, exists-same, exists-mem, mem-exists, upFrom-mem, mem-upFrom, nonempty-keep, exists-none}
 use Rattle.states.specs.declared.States.{States}
 use Rattle.states.specs.Sets.{member, setOf, members, leastOf}
 use Rattle.states.proofs.SetLaws.{member-setOf, set-cong, members-setOf}
@@ -20,29 +20,15 @@ use Rattle.semantics.specs.Verdict.{trace, traceFrom, written}
 use Rattle.routine.specs.declared.memory.Head.{Head}
 use Rattle.routine.specs.Memory.{write, words, setAt, headAt}
 use Rattle.routine.proofs.MemoryLaws.{set-in}
+use Rattle.routine.proofs.WriteLaws.{write-length, write-behind}
 use Rattle.routine.proofs.TableLaws.{write-back}
 use Rattle.progression.specs.Machine.{gathered, effect, stepped}
 use Rattle.progression.proofs.GatherLaws.{effect-rows, effect-none, step-none, step-kept}
 use Rattle.verifier.specs.Least.{pathFrom, after, back, feasible, leastOn, leastStates, WaysFrom}
 
 -- The set of a test has members just where a state passes the test.
-nonempty-keep : (p : ℕ → Bool) (xs : List ℕ) → nonempty (keep p xs) ≡ exists p xs
-unfolding nonempty keep exists
-nonempty-keep p [] = refl
-nonempty-keep p (x ∷ xs) = go (p x) (nonempty-keep p xs)
-  where
-    go : (b : Bool) → nonempty (keep p xs) ≡ exists p xs → nonempty (if b then x ∷ keep p xs else keep p xs) ≡ (b || exists p xs)
-    go true h = refl
-    go false h = h
-
 nonempty-setOf : (p : ℕ → Bool) → nonempty (members (setOf p)) ≡ exists p (below 256)
 nonempty-setOf p = ap nonempty (members-setOf p) ∙ nonempty-keep p (below 256)
-
--- Where no element passes a test, there is none that does.
-exists-none : {A : Type 0} (test : A → Bool) (xs : List A) → ((a : A) → List·Memᴰ a xs → test a ≡ false) → exists test xs ≡ false
-unfolding exists
-exists-none test [] h = refl
-exists-none test (x ∷ xs) h = rw (h x (List·Memᴰ·head refl), exists-none test xs (λ a m. h a (List·Memᴰ·tail m)))
 
 -- A set built up state by state.
 module _ (test : ℕ → Bool) where
@@ -177,17 +163,6 @@ module _ (heads sets : List ℕ) (action reply : ℕ) (later : States) (head : H
         ∙ ap (λ (b : Bool). b && member later t)
         (ap (λ (x : States). member x t && member row t) (effect-none sets head (one s) h) ∙ sym (after-member s t u))))
         ∙ back-is
-
--- What is written leaves the memory as long as it was, and what stands behind it as it was.
-write-length : (xs : List ℕ) (i : ℕ) (ys : List ℕ) → length (write xs i ys) ≡ length xs
-unfolding write
-write-length xs i [] = refl
-write-length xs i (y ∷ ys) = write-length (set xs i y) (i + 1) ys ∙ length-set xs i y
-
-write-behind : (xs : List ℕ) (i : ℕ) (ys : List ℕ) (j : ℕ) → i + length ys ≤ j → getD (write xs i ys) j 0 ≡ getD xs j 0
-unfolding write
-write-behind xs i [] j l = refl
-write-behind xs i (y ∷ ys) j l = write-behind (set xs i y) (i + 1) ys j (omega arith) ∙ getD-set-other xs i j y 0 (λ e. omega (arith, e))
 
 -- Set k of the ways once it is written, and the sets behind it.
 module _ (ways : List ℕ) (k : ℕ) (set : States) where

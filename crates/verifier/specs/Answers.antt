@@ -20,6 +20,7 @@ answerOf (Verdict.Stopped b) = accepted (stopped b)
 answerOf Verdict.ShortMemory = refused 30
 answerOf (Verdict.Refused r) = refused (numberOf r)
 
+-- The method, in the contract of an inner function; proofs/AnswerLaws.antt shows its agreement.
 -- The verdict by what the search finds.
 unfoldable pub verdictFor : (budget : ℕ) → Found → Verdict
 verdictFor budget (passed n) = Verdict.Valid n

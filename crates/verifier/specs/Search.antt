@@ -37,10 +37,10 @@ andThen (failed n rest) onward = failed n rest
 andThen over onward = over
 
 -- "A smaller reply before a larger."
-unfoldable pub eachReply : (visit : (r c : ℕ) → Found) → (rs : List ℕ) (c : ℕ) → Found
+unfoldable pub eachReply : (each : (r c : ℕ) → Found) → (rs : List ℕ) (c : ℕ) → Found
 unfolding andThen
-eachReply visit [] c = passed c
-eachReply visit (r ∷ rs) c = andThen (visit r c) (eachReply visit rs)
+eachReply each [] c = passed c
+eachReply each (r ∷ rs) c = andThen (each r c) (eachReply each rs)
 
 -- At an end the goal decides; an action is searched.
 unfoldable pub atPlace : Place → (acts : (node action : ℕ) → Found) → (c : ℕ) → Found

@@ -4,6 +4,5 @@ mod limits;
 mod search;
 mod verdict;
 
-pub use limits::TRACE;
 pub use verdict::Verdict;
 pub use verdict::verify;

@@ -9,7 +9,7 @@ use routine::SET_WORDS;
 use routine::head_at;
 use states::States;
 ghost use mathlib.Core.Path.{_≡_};
-ghost use Prim.Native.Nat.{_-_, _<_, _≤_};
+ghost use Prim.Native.Nat.{_-_, _≤_};
 ghost use lib.ListN.{length};
 ghost use Rattle.verifier.specs.Search.{pathByte, searched, SearchedBy};
 

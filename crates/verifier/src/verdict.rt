@@ -1,7 +1,6 @@
 // The verdict on a sheet.
 use crate::least::show;
 use crate::limits::ACTIONS;
-use crate::limits::TRACE;
 use crate::search::Searched;
 use crate::search::search;
 use reader::Refusal;
@@ -9,6 +8,7 @@ use routine::HEAD_CELLS;
 use routine::NODE_CELLS;
 use routine::Prepared;
 use routine::SET_WORDS;
+use routine::TRACE;
 use routine::prepare;
 use states::States;
 ghost use mathlib.Core.Path.{_≡_};
