@@ -12,7 +12,7 @@ use std::sync::{LazyLock, Mutex};
 use std::thread;
 use std::time::Duration;
 
-use common::{around_a_million, sheets, Case};
+use common::{around_a_million, counted_lines, longest, sheets, Case};
 use recovery::random::Random;
 use recovery::sheet::MAX_BYTES;
 
@@ -81,24 +81,33 @@ fn expected(sheet: &[u8]) -> String {
     String::from_utf8(Case::new(sheet.to_vec()).lines()).expect("ASCII")
 }
 
-/// Runs the program on each sheet, several at a time; gives how many different
-/// first words the lines had, with their numbers.
-fn compare_all(sheets: &[Vec<u8>]) -> BTreeMap<String, usize> {
+/// Runs the program on each sheet, several at a time; gives what it printed for each.
+fn compare_all(sheets: &[Vec<u8>]) -> Vec<String> {
     let next = AtomicUsize::new(0);
-    let counts = Mutex::new(BTreeMap::new());
+    let printed = Mutex::new(vec![String::new(); sheets.len()]);
     thread::scope(|scope| {
         for _ in 0..THREADS {
-            scope.spawn(|| {
-                while let Some(sheet) = sheets.get(next.fetch_add(1, Ordering::Relaxed)) {
-                    let lines = planverify(sheet);
-                    assert_eq!(lines, expected(sheet), "sheet {sheet:02x?}");
-                    let word = lines.split(' ').next().unwrap().to_string();
-                    *counts.lock().unwrap().entry(word).or_insert(0) += 1;
-                }
+            scope.spawn(|| loop {
+                let index = next.fetch_add(1, Ordering::Relaxed);
+                let Some(sheet) = sheets.get(index) else {
+                    break;
+                };
+                let lines = planverify(sheet);
+                assert_eq!(lines, expected(sheet), "sheet {sheet:02x?}");
+                printed.lock().unwrap()[index] = lines;
             });
         }
     });
-    counts.into_inner().unwrap()
+    printed.into_inner().unwrap()
+}
+
+/// The different first words, with their numbers.
+fn words(printed: &[String]) -> BTreeMap<&str, usize> {
+    let mut counts = BTreeMap::new();
+    for lines in printed {
+        *counts.entry(lines.split(' ').next().unwrap()).or_insert(0) += 1;
+    }
+    counts
 }
 
 fn unhex(text: &str) -> Vec<u8> {
@@ -136,21 +145,31 @@ fn sample_sheets() {
 #[test]
 fn sheets_of_all_kinds() {
     assert!(SHEETS.len() >= 5000, "{} sheets", SHEETS.len());
-    let counts = compare_all(&SHEETS);
-    assert_eq!(counts.values().sum::<usize>(), SHEETS.len());
+    let printed = compare_all(&SHEETS);
+    let counts = words(&printed);
+    let all = ["invalid", "refused", "stopped", "valid"];
+    assert!(counts.keys().eq(all.iter()), "{counts:?}");
     for word in ["valid", "invalid", "refused"] {
-        assert!(counts.get(word) >= Some(&1000), "{counts:?}");
+        assert!(counts[word] >= 1000, "{counts:?}");
     }
+    let mut refused = [0; 16];
+    for lines in &printed {
+        if let Some(number) = lines.strip_prefix("refused ") {
+            refused[number.trim_end().parse::<usize>().unwrap()] += 1;
+        }
+    }
+    assert!(refused[1..].iter().all(|&count| count > 0), "{refused:?}");
 }
 
 #[test]
 fn counts_around_a_million() {
-    let (sheets, numbers): (Vec<Vec<u8>>, Vec<u32>) = around_a_million()
+    let (sheets, lines): (Vec<Vec<u8>>, Vec<String>) = around_a_million()
         .into_iter()
-        .map(|(sheet, count, _)| (sheet, count))
+        .map(|(sheet, count, fails)| (sheet, counted_lines(count, fails)))
         .unzip();
-    let stopped = numbers.iter().filter(|&&count| count > common::BUDGET);
-    assert_eq!(compare_all(&sheets).get("stopped"), Some(&stopped.count()));
+    assert_eq!(compare_all(&sheets), lines);
+    let words: Vec<&str> = words(&lines).into_keys().collect();
+    assert_eq!(words, ["invalid", "stopped", "valid"]);
 }
 
 #[test]
@@ -164,7 +183,8 @@ fn cut_anywhere() {
     }
     sheets.sort();
     sheets.dedup();
-    let counts = compare_all(&sheets);
+    let printed = compare_all(&sheets);
+    let counts = words(&printed);
     for word in ["valid", "invalid", "refused"] {
         assert!(counts.contains_key(word), "{counts:?}");
     }
@@ -203,6 +223,21 @@ fn in_pieces() {
             let pieces = sheet.chunks(sheet.len() / 20 + 1);
             assert_eq!(planverify_in_pieces(pieces, pause), lines, "{sheet:02x?}");
         }
+    }
+}
+
+/// Every byte comes alone: the samples and the longest sheet.
+#[test]
+fn byte_by_byte() {
+    let [longest, _] = longest();
+    let lines = expected(&longest);
+    let mut sheets = samples();
+    sheets.retain(|(sheet, _)| sheet.len() <= MAX_BYTES);
+    sheets.push((longest, lines));
+    for (sheet, lines) in sheets {
+        let pause = Some(Duration::from_millis(3));
+        let printed = planverify_in_pieces(sheet.chunks(1), pause);
+        assert_eq!(printed, lines, "{sheet:02x?}");
     }
 }
 

@@ -6,14 +6,15 @@ mod common;
 use std::collections::BTreeSet;
 use std::sync::LazyLock;
 
-use common::{around_a_million, bytes, sheets, Case, BUDGET, FEW};
+use common::{around_a_million, bytes, counted_lines, many, sheets, Case, BUDGET, FEW};
 use linked::{check, plain, print, verify, verify_words, Tables, Verdict, LINES};
 use recovery::check::Checked;
+use recovery::encode::encode;
 use recovery::execute::Execution;
 use recovery::print::lines;
 use recovery::random::Random;
 use recovery::refusal::Refusal;
-use recovery::sheet::{Sheet, MAX_TRACE};
+use recovery::sheet::{Epistemic, Sheet, MAX_TRACE};
 use recovery::states::{states, State};
 use recovery::step::{effect, replies, start_states, step};
 use recovery::verify::Answer;
@@ -28,7 +29,20 @@ fn accepted() -> impl Iterator<Item = (&'static Case, &'static Sheet)> {
         .filter_map(|case| case.sheet.as_ref().map(|sheet| (case, sheet)))
 }
 
-/// The invalid ones, with the least failing trace.
+/// The sheets on which the search goes beyond `FEW` histories, and more such ones
+/// of `many` with a goal that can fail.
+fn beyond() -> impl Iterator<Item = &'static Case> {
+    static MORE: LazyLock<Vec<Case>> = LazyLock::new(|| {
+        let mut random = Random::new(40);
+        let sheets = (0..400).map(|_| many(&mut random));
+        let failing = sheets.filter(|sheet| matches!(sheet.goal, Epistemic::NotKnown(_)));
+        failing.map(|sheet| Case::new(encode(&sheet))).collect()
+    });
+    let cases = CASES.iter().chain(MORE.iter());
+    cases.filter(|case| matches!(case.answer, Answer::Stopped { .. }))
+}
+
+/// The ones invalid within `FEW` histories, with the least failing trace.
 fn invalid() -> impl Iterator<Item = (&'static Case, &'static Sheet, Vec<u8>)> {
     accepted().filter_map(|(case, sheet)| {
         let mut memory = [0; MAX_TRACE];
@@ -52,19 +66,35 @@ fn numbers(answer: Answer, before: [u64; 3]) -> (u8, [u64; 3]) {
 
 /// Compares the answers and every byte of the memory; gives the answer.
 fn compare(case: &Case, budget: u32, length: usize, random: &mut Random) -> Answer {
-    let mut expected = bytes(random, length);
-    let mut memory = expected.clone();
+    let expected = |memory: &mut [u8]| case.verify(budget, memory);
+    compare_with(expected, &case.bytes, budget, length, random)
+}
+
+/// The same by the sheet's tree, however many histories there are.
+fn compare_by_tree(sheet: &[u8], budget: u32, random: &mut Random) -> Answer {
+    let expected = |memory: &mut [u8]| recovery::verify::verify(sheet, budget, memory);
+    compare_with(expected, sheet, budget, MAX_TRACE, random)
+}
+
+fn compare_with(
+    expected: impl Fn(&mut [u8]) -> Answer,
+    sheet: &[u8],
+    budget: u32,
+    length: usize,
+    random: &mut Random,
+) -> Answer {
+    let before = bytes(random, length);
+    let [mut lent, mut memory] = [before.clone(), before];
     let words = [0; 3].map(|_: u64| random.bits());
     let mut verdict = words;
-    let answer = case.verify(budget, &mut expected);
-    let number = verify_words(&case.bytes, budget, &mut memory, &mut verdict);
-    let sheet = &case.bytes;
+    let answer = expected(&mut lent);
+    let number = verify_words(sheet, budget, &mut memory, &mut verdict);
     assert_eq!(
         (number, verdict),
         numbers(answer, words),
         "budget {budget}, sheet {sheet:02x?}"
     );
-    assert_eq!(memory, expected, "budget {budget}, sheet {sheet:02x?}");
+    assert_eq!(memory, lent, "budget {budget}, sheet {sheet:02x?}");
     answer
 }
 
@@ -155,19 +185,50 @@ fn verdicts_over_plain_tables() {
     }
 }
 
+/// Beyond `FEW` histories, as far as the tree is quick.
+#[test]
+fn many_histories_by_the_tree() {
+    let mut random = Random::new(50);
+    let [mut valid, mut invalid, mut stopped] = [0; 3];
+    for case in beyond() {
+        let few_facts = case.sheet.as_ref().is_some_and(|sheet| sheet.facts <= 6);
+        let most = if few_facts { 20_000 } else { 1_000 };
+        let answer = compare_by_tree(&case.bytes, most, &mut random);
+        let count = match answer {
+            Answer::Valid { count } => count,
+            Answer::Invalid { count, .. } => count,
+            Answer::Stopped { .. } => {
+                stopped += 1;
+                continue;
+            }
+            Answer::Refused(_) => panic!("{answer:?}"),
+        };
+        assert!(count > FEW, "{answer:?}");
+        for budget in [FEW + 1, count - 1, count, u32::MAX] {
+            let expected = match budget < count {
+                true => Answer::Stopped { budget },
+                false => answer,
+            };
+            let again = compare_by_tree(&case.bytes, budget, &mut random);
+            assert_eq!(again, expected, "budget {budget}");
+        }
+        match answer {
+            Answer::Invalid { .. } => invalid += 1,
+            _ => valid += 1,
+        }
+    }
+    let counts = [valid, invalid, stopped];
+    assert!(valid >= 100 && invalid >= 15 && stopped >= 50, "{counts:?}");
+}
+
 #[test]
 fn counts_around_a_million() {
     let mut random = Random::new(45);
     let mut below = 0;
     let mut above = 0;
-    for (bytes, count, fails) in around_a_million() {
-        // By the sheet's tree, since the number of histories is what is looked at.
-        let case = Case {
-            answer: Answer::Valid { count },
-            ..Case::new(bytes)
-        };
+    for (sheet, count, fails) in around_a_million() {
         for budget in [999_999, 1_000_000, 1_000_001] {
-            let answer = compare(&case, budget, MAX_TRACE, &mut random);
+            let answer = compare_by_tree(&sheet, budget, &mut random);
             match answer {
                 Answer::Stopped { .. } => assert!(count > budget),
                 Answer::Valid { count: all } => assert_eq!((all, fails), (count, false)),
@@ -264,31 +325,70 @@ fn damaged_traces(random: &mut Random, trace: &[u8], most: usize) -> Vec<Vec<u8>
     traces
 }
 
+/// Compares the checkers on a trace that has to fail and on ones near it, of which
+/// there are few if `most` is small; gives how many of those fail and do not.
+fn checked_nearby(random: &mut Random, sheet: &[u8], trace: &[u8], most: usize) -> [usize; 2] {
+    assert_eq!(checked(sheet, trace), Checked::Yes);
+    let [mut yes, mut no] = [0; 2];
+    for other in damaged_traces(random, trace, most) {
+        match checked(sheet, &other) {
+            Checked::Yes => yes += 1,
+            Checked::No => no += 1,
+            Checked::Refused(_) => panic!("refused"),
+        }
+        if other.len() % 2 == 0 || other.len() > MAX_TRACE {
+            assert_eq!(check(sheet, &other), Ok(false));
+        }
+    }
+    [yes, no]
+}
+
 #[test]
 fn checked_traces_and_their_neighbours() {
     let mut random = Random::new(46);
     let (mut shown, mut yes, mut no) = (0, 0, 0);
     let mut longest = 0;
     for (case, sheet, trace) in invalid() {
-        assert_eq!(checked(&case.bytes, &trace), Checked::Yes);
-        shown += 1;
-        longest = longest.max(trace.len());
         // Reading takes long where there are many facts.
         let most = if sheet.facts <= 4 { MAX_TRACE } else { 3 };
-        for other in damaged_traces(&mut random, &trace, most) {
-            match checked(&case.bytes, &other) {
-                Checked::Yes => yes += 1,
-                Checked::No => no += 1,
-                Checked::Refused(_) => panic!("refused"),
-            }
-            if other.len() % 2 == 0 || other.len() > MAX_TRACE {
-                assert_eq!(check(&case.bytes, &other), Ok(false));
-            }
-        }
+        let counts = checked_nearby(&mut random, &case.bytes, &trace, most);
+        shown += 1;
+        longest = longest.max(trace.len());
+        yes += counts[0];
+        no += counts[1];
     }
     assert!(shown >= 1000, "{shown}");
     assert!(yes >= 500 && no >= 20_000, "{yes} {no}");
     assert_eq!(longest, MAX_TRACE);
+}
+
+/// The traces that the proved verifier shows for failures after more than `FEW`
+/// histories.
+#[test]
+fn checked_traces_of_late_failures() {
+    let mut random = Random::new(53);
+    let (mut late, mut latest, mut yes, mut no) = (0, 0, 0, 0);
+    let last = around_a_million()
+        .into_iter()
+        .filter(|&(_, _, fails)| fails);
+    let sheets = beyond().map(|case| case.bytes.clone());
+    for sheet in sheets.chain(last.map(|(sheet, ..)| sheet)) {
+        let mut memory = [0; MAX_TRACE];
+        match verify(&sheet, BUDGET + 1, &mut memory) {
+            Ok(Verdict::Invalid { count, length }) => {
+                assert!(count > FEW);
+                let trace = &memory[..1 + 2 * length];
+                let counts = checked_nearby(&mut random, &sheet, trace, 10);
+                late += 1;
+                latest += usize::from(count >= 999_999);
+                yes += counts[0];
+                no += counts[1];
+            }
+            verdict => assert!(verdict.is_ok(), "{verdict:?}"),
+        }
+    }
+    assert!(late >= 20 && latest >= 3, "{late} {latest}");
+    assert!(yes >= 10 && no >= 500, "{yes} {no}");
 }
 
 /// The trace of a run that follows the routine to its end, and whether the goal fails there.
@@ -376,14 +476,8 @@ fn printed_lines() {
         let case = Case::new(bytes);
         let expected = case.lines();
         let word = compare_print(&case.bytes, &expected, &mut random);
-        let line = String::from_utf8(expected).unwrap();
-        if count > BUDGET {
-            assert_eq!(line, "stopped 1000000\n");
-        } else if fails {
-            assert!(line.starts_with(&format!("invalid {count} ")));
-        } else {
-            assert_eq!(line, format!("valid {count}\n"));
-        }
+        let printed = String::from_utf8(expected).unwrap();
+        assert_eq!(printed, counted_lines(count, fails));
         *counts.entry(word).or_insert(0) += 1;
     }
     let words = ["invalid", "refused", "stopped", "valid"];

@@ -36,8 +36,12 @@ impl Case {
         }
     }
 
-    /// The Rust verifier's answer, by the sheet's tree; over plain tables where
-    /// there are so many histories that the tree would take long.
+    /// What the proved verifier is compared with. Up to `FEW` histories or a budget
+    /// of `FEW` that is `recovery::verify`, by the sheet's tree. Beyond, where the
+    /// tree may take long, it is `plain::verify`: the same search as the proved one,
+    /// over the same kind of tables. There `many_histories_by_the_tree` and
+    /// `counts_around_a_million` in `verifier.rs` compare the proved verifier with
+    /// the tree too, as far as that is quick.
     pub fn verify(&self, budget: u32, memory: &mut [u8]) -> Answer {
         match (self.answer, &self.sheet) {
             (Answer::Stopped { .. }, Some(sheet)) if budget > FEW && memory.len() >= MAX_TRACE => {
@@ -200,7 +204,7 @@ pub fn many(random: &mut Random) -> Sheet {
 }
 
 /// The longest sheet, accepted, and the longest trace, of a history that fails.
-fn longest() -> [Vec<u8>; 2] {
+pub fn longest() -> [Vec<u8>; 2] {
     let sheet = encode(&Sheet {
         start: wide(1362),
         ..plain_sheet()
@@ -330,7 +334,26 @@ pub fn last_fails(count: u32) -> Sheet {
     sheet
 }
 
-/// Sheets with around a million histories, with their numbers, and whether one fails.
+/// What `planverify` has to print for a sheet with so many histories that is valid,
+/// or for `last_fails`.
+pub fn counted_lines(count: u32, fails: bool) -> String {
+    if count > BUDGET {
+        return format!("stopped {BUDGET}\n");
+    }
+    if !fails {
+        return format!("valid {count}\n");
+    }
+    // All facts are false throughout.
+    let replies = reply_counts(count);
+    let events = replies.iter().zip((0..).step_by(8));
+    let steps: String = events
+        .map(|(most, action)| format!(" {:02x} 00", action + most - 1))
+        .collect();
+    format!("invalid {count} {}\n00{steps}\n", replies.len())
+}
+
+/// Sheets with around a million histories, with their numbers, and whether the last
+/// alone fails.
 pub fn around_a_million() -> Vec<(Vec<u8>, u32, bool)> {
     let mut sheets = Vec::new();
     for count in [999_998, 999_999, 1_000_000, 1_000_001, 1_000_002] {
