@@ -22,7 +22,7 @@ use Rattle.semantics.proofs.RunLaws.{Replied, occurs-run, run-replied}
 use Rattle.routine.specs.Tables.{sheetStart}
 use Rattle.routine.proofs.TableLaws.{Tabled}
 use Rattle.progression.proofs.StepLaws.{single-set}
-use Rattle.verifier.specs.Least.{after, back, feasible, leastOn, leastStates}
+use Rattle.verifier.specs.Least.{after, preimage, feasible, leastOn, leastStates}
 
 -- The first element of lists laid end to end is that of the first that has one.
 head-flat : {B : Type 0} (f : ℕ → List B) (d : B) (xs : List ℕ) → exists (λ x. nonempty (f x)) xs ≡ true
@@ -63,9 +63,9 @@ module _ (sheet : Sheet) (few : sheet .facts ≤ 8) (heads nodes sets : List ℕ
   unfolding after
   after-is e s i l = single-set sheet few heads nodes sets tabled s i (e .action) (known-action sheet (e .action) (e .reply) l) (e .reply)
 
-  back-member : (e : Entry) (later : States) (s : ℕ) → s < 256 → member (back heads sets e later) s ≡ exists (λ t. member (after heads sets e s) t && member later t) (below 256)
-  unfolding back
-  back-member e later s l = member-setOf (λ u. exists (λ t. member (after heads sets e u) t && member later t) (below 256)) s l
+  preimage-member : (e : Entry) (later : States) (s : ℕ) → s < 256 → member (preimage heads sets e later) s ≡ exists (λ t. member (after heads sets e s) t && member later t) (below 256)
+  unfolding preimage
+  preimage-member e later s l = member-setOf (λ u. exists (λ t. member (after heads sets e u) t && member later t) (below 256)) s l
 
   next-exists : (e : Entry) (s : ℕ) (test : ℕ → Bool) → exists test (nextStates sheet e s) ≡ exists (λ t. step sheet e s t && test t) (states sheet)
   unfolding nextStates
@@ -94,9 +94,9 @@ module _ (sheet : Sheet) (few : sheet .facts ≤ 8) (heads nodes sets : List ℕ
       there t l = ap (λ (u : States). member u t) (after-is e s i (replied .0)) ∙ member-setOf (λ u. isState sheet u && step sheet e s u) t l
 
       go : ((t : ℕ) → isState sheet t ≡ true → member (feasible heads sets h) t ≡ nonempty (runsFrom sheet t h))
-          → member (back heads sets e (feasible heads sets h)) s ≡ nonempty (map (λ run. s ∷ run) (flatMap (λ t. runsFrom sheet t h) (nextStates sheet e s)))
+          → member (preimage heads sets e (feasible heads sets h)) s ≡ nonempty (map (λ run. s ∷ run) (flatMap (λ t. runsFrom sheet t h) (nextStates sheet e s)))
       go deeper =
-          back-member e (feasible heads sets h) s (state-byte sheet few s i)
+          preimage-member e (feasible heads sets h) s (state-byte sheet few s i)
           ∙ same-test (exists leads (below 256)) (exists goes (states sheet))
           (λ x.
           let w = exists-mem leads (below 256) x in

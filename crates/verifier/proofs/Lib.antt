@@ -1,5 +1,5 @@
 pub mod PathLaws
 pub mod SearchLaws
-pub mod WayLaws
+pub mod FeasibleLaws
 pub mod LeastLaws
 pub mod AnswerLaws

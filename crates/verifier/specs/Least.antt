@@ -24,18 +24,18 @@ module _ (heads sets : List ℕ) where
   unfolding stepped setOf
   after e s = stepped heads sets (setOf (λ u. eqb u s)) (e .action) (e .reply)
 
-  -- The states from which an entry leads to a state of a set.
-  unfoldable pub back : Entry → States → States
+  -- The preimage of a set under an entry: the states from which it leads to a state of the set.
+  unfoldable pub preimage : Entry → States → States
   unfolding setOf exists member after upFrom
-  back e later = setOf (λ s. exists (λ t. member (after e s) t && member later t) (below 256))
+  preimage e later = setOf (λ s. exists (λ t. member (after e s) t && member later t) (below 256))
 
   -- The states from which a whole history can be gone.
   unfoldable pub feasible : History → States
-  unfolding back setOf
+  unfolding preimage setOf
   feasible [] = setOf (λ s. true)
-  feasible (e ∷ h) = back e (feasible h)
+  feasible (e ∷ h) = preimage e (feasible h)
 
-  -- The least state of a set from which a history can be gone, and the least way on: the least run from a set of start states.
+  -- The least state of a set from which a history can be gone, and so on: the least run from a set of start states.
   unfoldable pub leastOn : States → History → ℕ
   unfolding leastOf members setOf member feasible
   leastOn from h = leastOf (members (setOf (λ s. member from s && member (feasible h) s)))
@@ -46,5 +46,5 @@ module _ (heads sets : List ℕ) where
   leastStates from (e ∷ h) = leastOn from (e ∷ h) ∷ leastStates (after e (leastOn from (e ∷ h))) h
 
   -- From place k on a memory holds the states from which the rest of a path can be gone.
-  unfoldable pub WaysFrom : (path : List ℕ) (len k : ℕ) (ways : List ℕ) → Type 0
-  WaysFrom path len k ways = (j : ℕ) → k ≤ j → j ≤ len → setAt ways j ≡ feasible (pathFrom path j (len - j))
+  unfoldable pub FeasibleFrom : (path : List ℕ) (len k : ℕ) (memory : List ℕ) → Type 0
+  FeasibleFrom path len k memory = (j : ℕ) → k ≤ j → j ≤ len → setAt memory j ≡ feasible (pathFrom path j (len - j))

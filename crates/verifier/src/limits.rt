@@ -3,5 +3,5 @@
 // The most actions of a run.
 pub(crate) const ACTIONS: usize = 64;
 
-// The words of a set of states before and after each action.
-pub(crate) const WAY_WORDS: usize = 260;
+// The words of the feasible sets: one before and after each action.
+pub(crate) const FEASIBLE_WORDS: usize = 260;

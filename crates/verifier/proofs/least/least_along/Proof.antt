@@ -4,20 +4,20 @@ use mathlib.Core.Path.{_≡_, _∙_}
 use native.Mathlib.Omega.{arith}
 use denote.Ref.{now}
 use lib.ListN.{length, getD, length-set}
-use Rattle.verifier.proofs.WayLaws.{way-is, At, at-start, at-more, shown-all}
+use Rattle.verifier.proofs.FeasibleLaws.{filled-is, At, at-start, at-more, shown-all}
 use borrow.Author.Needs.{needs}
 use Rattle.verifier.proofs.least.least_along.Statement.{statement}
 use Rattle.verifier.proofs.least.least_along.Tie as tie
 
 abbrev Inv-loop : tie.InvT-loop
-Inv-loop heads sets path len ways shown₀ s₀ k₀ shown s k =
+Inv-loop heads sets path len feasible shown₀ s₀ k₀ shown s k =
     (k ≤ len) × At heads sets path len shown₀ s₀ shown k s
 
 abbrev μ-loop : tie.MeasureT-loop
-μ-loop heads sets path len ways shown₀ s₀ k₀ shown s k = len - k
+μ-loop heads sets path len feasible shown₀ s₀ k₀ shown s k = len - k
 
-way-at-requires : tie.Need-way-at-requires Inv-loop μ-loop
-way-at-requires c κs = search needs
+feasible-at-requires : tie.Need-feasible-at-requires Inv-loop μ-loop
+feasible-at-requires c κs = search needs
 
 intersect-requires : tie.Need-intersect-requires Inv-loop μ-loop
 intersect-requires c κs = search needs
@@ -46,11 +46,11 @@ reply-of-requires c κs = search needs
 step-requires : tie.Need-step-requires Inv-loop μ-loop
 step-requires c κs = search needs
 
-add-way-at : tie.Need-add-way-at Inv-loop μ-loop
-add-way-at c = search needs
+add-feasible-at : tie.Need-add-feasible-at Inv-loop μ-loop
+add-feasible-at c = search needs
 
-way-at-requires-2 : tie.Need-way-at-requires-2 Inv-loop μ-loop
-way-at-requires-2 c κs = search needs
+feasible-at-requires-2 : tie.Need-feasible-at-requires-2 Inv-loop μ-loop
+feasible-at-requires-2 c κs = search needs
 
 intersect-requires-2 : tie.Need-intersect-requires-2 Inv-loop μ-loop
 intersect-requires-2 c κs = search needs
@@ -95,7 +95,7 @@ loop-again c =
     let l = c .before .before .before .before .before .before .before .before .before .loop in
     let more = c .before .before .before .before .before .before .before .before .loop-test .taken in
     let n : length (l .shown) ≡ length (now (a .shown)) = l .inv .1 .size ∙ length-set (now (a .shown)) 0 (c .before .before .before .before .before .before .before .before .before .before .least .result) in
-    let w = way-is (now (a .heads)) (now (a .sets)) (now (a .path)) (a .len) (now (a .ways)) (l .k + 1) _ (s .pre .2) (omega (arith, more)) (c .before .before .way-at2 .ensures) in (
+    let w = filled-is (now (a .heads)) (now (a .sets)) (now (a .path)) (a .len) (now (a .feasible)) (l .k + 1) _ (s .pre .2) (omega (arith, more)) (c .before .before .feasible-at2 .ensures) in (
       omega (arith, more),
       at-more (now (a .heads)) (now (a .sets)) (now (a .path)) (a .len) _ _ (l .shown) (l .k) (l .s) _ _ _ _ _ _ _ more (omega (arith, n, more, s .pre .0, s .pre .1))
           (c .before .before .before .before .before .action-of .ensures) (c .before .before .before .before .reply-of .ensures) (c .before .before .before .before .before .before .one .ensures) (c .before .before .before .step .ensures) w (c .before .intersect2 .ensures) (c .least2 .ensures) (l .inv .1),
@@ -110,7 +110,7 @@ returns c =
     let a = s .args in
     let l = c .before .loop in
     let n : length (l .shown) ≡ length (now (a .shown)) = l .inv .1 .size ∙ length-set (now (a .shown)) 0 (c .before .before .least .result) in
-    let w = way-is (now (a .heads)) (now (a .sets)) (now (a .path)) (a .len) (now (a .ways)) 0 _ (s .pre .2) (omega arith) (c .before .before .before .before .way-at .ensures) in
+    let w = filled-is (now (a .heads)) (now (a .sets)) (now (a .path)) (a .len) (now (a .feasible)) 0 _ (s .pre .2) (omega arith) (c .before .before .before .before .feasible-at .ensures) in
     shown-all (now (a .heads)) (now (a .sets)) (now (a .path)) (a .len) (a .start) _ _ (now (a .shown)) (l .shown) _ (l .k) (l .s) (omega (arith, s .pre .1)) (omega (arith, n, s .pre .0, s .pre .1)) (omega arith) w
     (c .before .before .before .intersect .ensures) (c .before .before .least .ensures) (l .inv .1)
 
@@ -120,7 +120,7 @@ least-along-spec =
     (tie.spec
     Inv-loop
     μ-loop
-    way-at-requires
+    feasible-at-requires
     intersect-requires
     least-requires
     slice-write-shown
@@ -130,8 +130,8 @@ least-along-spec =
     action-of-requires
     reply-of-requires
     step-requires
-    add-way-at
-    way-at-requires-2
+    add-feasible-at
+    feasible-at-requires-2
     intersect-requires-2
     least-requires-2
     mul-shown

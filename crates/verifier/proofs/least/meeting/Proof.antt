@@ -5,7 +5,7 @@ use mathlib.Core.Logic.{⊎-elim}
 use mathlib.Core.Bool.{true, false}
 use native.Mathlib.Omega.{arith}
 use denote.Ref.{now}
-use Rattle.verifier.proofs.WayLaws.{upToSet, set-start, set-done, set-without, set-with, meets, meets-test, not-not}
+use Rattle.verifier.proofs.FeasibleLaws.{upToSet, set-start, set-done, set-without, set-with, meets, meets-test, not-not}
 use borrow.Author.Needs.{needs}
 use Rattle.verifier.proofs.least.meeting.Statement.{statement}
 use Rattle.verifier.proofs.least.meeting.Tie as tie

@@ -1,4 +1,4 @@
--- Laws of the least run along a path: one entry back, the sets that are kept for its places, and the trace that is shown. Assumes nothing.
+-- Laws of the least run along a path: one entry backward, the sets that are kept for its places, and the trace that is shown. Assumes nothing.
 use Prim.Native.Nat.{ℕ, suc, _+_, _-_, _*_, _/_, _%_, _≤_, _<_}
 use mathlib.Core.Path.{_≡_, refl, sym, ap, ap₂, subst, _∙_}
 use mathlib.Core.List.{List, [], _∷_, _++_, append-nil, append-assoc}
@@ -24,7 +24,7 @@ use Rattle.routine.proofs.WriteLaws.{write-length, write-behind}
 use Rattle.routine.proofs.TableLaws.{write-back}
 use Rattle.progression.specs.Machine.{gathered, effect, stepped}
 use Rattle.progression.proofs.GatherLaws.{effect-rows, effect-none, step-none, step-kept}
-use Rattle.verifier.specs.Least.{pathFrom, after, back, feasible, leastOn, leastStates, WaysFrom}
+use Rattle.verifier.specs.Least.{pathFrom, after, preimage, feasible, leastOn, leastStates, FeasibleFrom}
 
 -- The set of a test has members just where a state passes the test.
 nonempty-setOf : (p : ℕ → Bool) → nonempty (members (setOf p)) ≡ exists p (below 256)
@@ -97,7 +97,7 @@ and-turn true false true = refl
 and-turn true false false = refl
 and-turn false r l = refl
 
--- One entry back, by the head of its action.
+-- One entry backward, by the head of its action.
 module _ (heads sets : List ℕ) (action reply : ℕ) (later : States) (head : Head) (is : head ≡ headAt heads action) where
   abbrev one : ℕ → States
   one s = setOf (λ u. eqb u s)
@@ -109,20 +109,20 @@ module _ (heads sets : List ℕ) (action reply : ℕ) (later : States) (head : H
   unfolding after
   after-is s = refl
 
-  back-is : setOf (λ s. exists (leads s) (below 256)) ≡ back heads sets (entry action reply) later
-  unfolding back
-  back-is = refl
+  preimage-is : setOf (λ s. exists (leads s) (below 256)) ≡ preimage heads sets (entry action reply) later
+  unfolding preimage
+  preimage-is = refl
 
   -- A reply that the action hasn't leads nowhere.
-  pub back-none : head .count ≤ reply → setOf (λ s. false) ≡ back heads sets (entry action reply) later
-  back-none h =
+  pub preimage-none : head .count ≤ reply → setOf (λ s. false) ≡ preimage heads sets (entry action reply) later
+  preimage-none h =
       set-cong (λ s. false) (λ s. exists (leads s) (below 256))
       (λ s l. sym (exists-none (leads s) (below 256)
       (λ t m. ap (λ (b : Bool). b && member later t)
       (ap (λ (x : States). member x t) (after-is s ∙ sym (step-none heads sets (one s) action reply head is h)) ∙ member-setOf (λ t. false) t (upFrom-mem 0 256 m .1)))))
-      ∙ back-is
+      ∙ preimage-is
 
-  -- The states in which the reply is true and from which the rest can be gone.
+  -- The states in which the reply is true and from which the rest rest be gone.
   module _ (row answered : States) (known : reply < head .count) (at : row ≡ setAt sets (head .replies + reply)) (both : answered ≡ setOf (λ s. member later s && member row s)) where
     answered-member : (t : ℕ) → t < 256 → member answered t ≡ member later t && member row t
     answered-member t h = ap (λ (x : States). member x t) both ∙ member-setOf (λ s. member later s && member row s) t h
@@ -138,8 +138,8 @@ module _ (heads sets : List ℕ) (action reply : ℕ) (later : States) (head : H
         member-setOf (λ t. exists (λ s′. member (one s) s′ && member (setAt sets (head .rows + s′)) t) (below 256)) t h ∙ exists-one (λ s′. member (setAt sets (head .rows + s′)) t) s l
 
     -- With rows it leads there from the states whose rows have such a state.
-    pub back-rows : head .rows < head .replies → setOf (meets sets (head .rows) answered) ≡ back heads sets (entry action reply) later
-    back-rows h =
+    pub preimage-rows : head .rows < head .replies → setOf (meets sets (head .rows) answered) ≡ preimage heads sets (entry action reply) later
+    preimage-rows h =
         set-cong (meets sets (head .rows) answered) (λ s. exists (leads s) (below 256))
         (λ s l. exists-same (λ t. member (setAt sets (head .rows + s)) t && member answered t) (leads s) (below 256)
         (λ t m.
@@ -148,11 +148,11 @@ module _ (heads sets : List ℕ) (action reply : ℕ) (later : States) (head : H
         ∙ and-turn (member (setAt sets (head .rows + s)) t) (member row t) (member later t)
         ∙ ap (λ (b : Bool). b && member later t)
         (ap (λ (b : Bool). b && member row t) (sym (gathered-one s t l u) ∙ ap (λ (x : States). member x t) (effect-rows sets head (one s) h)) ∙ sym (after-member s t u))))
-        ∙ back-is
+        ∙ preimage-is
 
     -- Without rows it leads there from these states themselves.
-    pub back-same : head .replies ≤ head .rows → answered ≡ back heads sets (entry action reply) later
-    back-same h =
+    pub preimage-same : head .replies ≤ head .rows → answered ≡ preimage heads sets (entry action reply) later
+    preimage-same h =
         both
         ∙ set-cong (λ s. member later s && member row s) (λ s. exists (leads s) (below 256))
         (λ s l. sym (exists-one (λ t. member later t && member row t) s l)
@@ -162,25 +162,25 @@ module _ (heads sets : List ℕ) (action reply : ℕ) (later : States) (head : H
         and-turn (member (one s) t) (member row t) (member later t)
         ∙ ap (λ (b : Bool). b && member later t)
         (ap (λ (x : States). member x t && member row t) (effect-none sets head (one s) h) ∙ sym (after-member s t u))))
-        ∙ back-is
+        ∙ preimage-is
 
--- Set k of the ways once it is written, and the sets behind it.
-module _ (ways : List ℕ) (k : ℕ) (set : States) where
-  way-written : 4 * k + 4 ≤ length ways → k < 65 → setAt (write ways (4 * k) (words set)) k ≡ set
+-- Feasible set k once it is written, and the sets behind it.
+module _ (memory : List ℕ) (k : ℕ) (set : States) where
+  set-written : 4 * k + 4 ≤ length memory → k < 65 → setAt (write memory (4 * k) (words set)) k ≡ set
   unfolding words
-  way-written h l =
-      let m = write ways (4 * k) (words set) in
-      let e : ((j : ℕ) → j < 4 → getD (write ways (4 * k) (words set)) (4 * k + j) 0 ≡ getD (words set) j 0) = write-back ways (4 * k) (words set) (omega arith) in
+  set-written h l =
+      let m = write memory (4 * k) (words set) in
+      let e : ((j : ℕ) → j < 4 → getD (write memory (4 * k) (words set)) (4 * k + j) 0 ≡ getD (words set) j 0) = write-back memory (4 * k) (words set) (omega arith) in
       let z : 4 * k ≡ 4 * k + 0 = omega arith in
-      let e₀ : getD (write ways (4 * k) (words set)) (4 * k) 0 ≡ set .w0 = ap (λ (v : ℕ). getD (write ways (4 * k) (words set)) v 0) z ∙ e 0 (omega arith) in
+      let e₀ : getD (write memory (4 * k) (words set)) (4 * k) 0 ≡ set .w0 = ap (λ (v : ℕ). getD (write memory (4 * k) (words set)) v 0) z ∙ e 0 (omega arith) in
       sym (set-in m k (omega arith)) ∙ (λ i. record { w0 = e₀ i; w1 = e 1 (omega arith) i; w2 = e 2 (omega arith) i; w3 = e 3 (omega arith) i })
 
-  way-behind : (j : ℕ) → k < j → j < 65 → setAt (write ways (4 * k) (words set)) j ≡ setAt ways j
+  set-behind : (j : ℕ) → k < j → j < 65 → setAt (write memory (4 * k) (words set)) j ≡ setAt memory j
   unfolding words
-  way-behind j h l =
-      let e : ((i : ℕ) → getD (write ways (4 * k) (words set)) (4 * j + i) 0 ≡ getD ways (4 * j + i) 0) = λ i. write-behind ways (4 * k) (words set) (4 * j + i) (omega arith) in
-      let e₀ : getD (write ways (4 * k) (words set)) (4 * j) 0 ≡ getD ways (4 * j) 0 = write-behind ways (4 * k) (words set) (4 * j) (omega arith) in
-      sym (set-in (write ways (4 * k) (words set)) j (omega arith)) ∙ (λ i. record { w0 = e₀ i; w1 = e 1 i; w2 = e 2 i; w3 = e 3 i }) ∙ set-in ways j (omega arith)
+  set-behind j h l =
+      let e : ((i : ℕ) → getD (write memory (4 * k) (words set)) (4 * j + i) 0 ≡ getD memory (4 * j + i) 0) = λ i. write-behind memory (4 * k) (words set) (4 * j + i) (omega arith) in
+      let e₀ : getD (write memory (4 * k) (words set)) (4 * j) 0 ≡ getD memory (4 * j) 0 = write-behind memory (4 * k) (words set) (4 * j) (omega arith) in
+      sym (set-in (write memory (4 * k) (words set)) j (omega arith)) ∙ (λ i. record { w0 = e₀ i; w1 = e 1 i; w2 = e 2 i; w3 = e 3 i }) ∙ set-in memory j (omega arith)
 
 -- The history of a path from a place on.
 path-none : (path : List ℕ) (len : ℕ) → pathFrom path len (len - len) ≡ []
@@ -191,49 +191,49 @@ path-more : (path : List ℕ) (len k : ℕ) → k < len → pathFrom path k (len
 unfolding pathFrom
 path-more path len k h = let z : len - k ≡ suc (len - (k + 1)) = omega arith in rw z
 
--- The ways of a path, written from its end on.
+-- The feasible sets of a path, written from its end on.
 module _ (heads sets path : List ℕ) (len : ℕ) where
-  -- The states from which the path can be gone from place k on.
-  abbrev pub can : ℕ → States
-  can k = feasible heads sets (pathFrom path k (len - k))
+  -- The states from which the path rest be gone from place k on.
+  abbrev pub rest : ℕ → States
+  rest k = feasible heads sets (pathFrom path k (len - k))
 
   feasible-none : setOf (λ s. true) ≡ feasible heads sets []
   unfolding feasible
   feasible-none = refl
 
-  feasible-more : (e : Entry) (h : History) → back heads sets e (feasible heads sets h) ≡ feasible heads sets (e ∷ h)
+  feasible-more : (e : Entry) (h : History) → preimage heads sets e (feasible heads sets h) ≡ feasible heads sets (e ∷ h)
   unfolding feasible
   feasible-more e h = refl
 
-  pub can-end : setOf (λ s. true) ≡ can len
-  can-end = feasible-none ∙ sym (ap (feasible heads sets) (path-none path len))
+  pub rest-end : setOf (λ s. true) ≡ rest len
+  rest-end = feasible-none ∙ sym (ap (feasible heads sets) (path-none path len))
 
-  pub can-back : (k action reply : ℕ) → k < len → action ≡ getD path k 0 / 8 → reply ≡ getD path k 0 % 8 → (later : States) → later ≡ can (k + 1)
-      → back heads sets (entry action reply) later ≡ can k
-  can-back k action reply h a r later e =
+  pub rest-before : (k action reply : ℕ) → k < len → action ≡ getD path k 0 / 8 → reply ≡ getD path k 0 % 8 → (later : States) → later ≡ rest (k + 1)
+      → preimage heads sets (entry action reply) later ≡ rest k
+  rest-before k action reply h a r later e =
       let d = entry (getD path k 0 / 8) (getD path k 0 % 8) in
-      ap₂ (λ (x y : ℕ). back heads sets (entry x y) later) a r ∙ ap (back heads sets d) e ∙ feasible-more d (pathFrom path (k + 1) (len - (k + 1)))
+      ap₂ (λ (x y : ℕ). preimage heads sets (entry x y) later) a r ∙ ap (preimage heads sets d) e ∙ feasible-more d (pathFrom path (k + 1) (len - (k + 1)))
       ∙ sym (ap (feasible heads sets) (path-more path len k h))
 
   -- None is asked for behind the end.
-  pub ways-none : (ways : List ℕ) → WaysFrom heads sets path len (len + 1) ways
-  unfolding WaysFrom
-  ways-none ways j l h = absurd (omega arith)
+  pub filled-none : (memory : List ℕ) → FeasibleFrom heads sets path len (len + 1) memory
+  unfolding FeasibleFrom
+  filled-none memory j l h = absurd (omega arith)
 
-  pub ways-more : (ways more : List ℕ) (k : ℕ) (set : States) → length ways ≡ 260 → k ≤ len → len ≤ 64 → WaysFrom heads sets path len (k + 1) ways → set ≡ can k
-      → more ≡ write ways (4 * k) (words set) → (length more ≡ 260) × WaysFrom heads sets path len k more
-  unfolding WaysFrom
-  ways-more ways more k set n l few w e m =
-      (ap length m ∙ write-length ways (4 * k) (words set) ∙ n, λ j lo hi. ap (λ (x : List ℕ). setAt x j) m ∙ go j lo hi (ℕ-discrete j k))
+  pub filled-more : (memory more : List ℕ) (k : ℕ) (set : States) → length memory ≡ 260 → k ≤ len → len ≤ 64 → FeasibleFrom heads sets path len (k + 1) memory → set ≡ rest k
+      → more ≡ write memory (4 * k) (words set) → (length more ≡ 260) × FeasibleFrom heads sets path len k more
+  unfolding FeasibleFrom
+  filled-more memory more k set n l few w e m =
+      (ap length m ∙ write-length memory (4 * k) (words set) ∙ n, λ j lo hi. ap (λ (x : List ℕ). setAt x j) m ∙ go j lo hi (ℕ-discrete j k))
     where
-      go : (j : ℕ) → k ≤ j → j ≤ len → Dec (j ≡ k) → setAt (write ways (4 * k) (words set)) j ≡ can j
-      go j lo hi (yes p) = subst (λ (i : ℕ). setAt (write ways (4 * k) (words set)) i ≡ can i) (sym p) (way-written ways k set (omega (arith, n)) (omega arith) ∙ e)
-      go j lo hi (no p) = way-behind ways k set j (omega arith) (omega arith) ∙ w j (omega arith) hi
+      go : (j : ℕ) → k ≤ j → j ≤ len → Dec (j ≡ k) → setAt (write memory (4 * k) (words set)) j ≡ rest j
+      go j lo hi (yes p) = subst (λ (i : ℕ). setAt (write memory (4 * k) (words set)) i ≡ rest i) (sym p) (set-written memory k set (omega (arith, n)) (omega arith) ∙ e)
+      go j lo hi (no p) = set-behind memory k set j (omega arith) (omega arith) ∙ w j (omega arith) hi
 
   -- Each is read from them.
-  pub way-is : (ways : List ℕ) (k : ℕ) (way : States) → WaysFrom heads sets path len 0 ways → k ≤ len → way ≡ setAt ways k → way ≡ can k
-  unfolding WaysFrom
-  way-is ways k way w h e = e ∙ w k (omega arith) h
+  pub filled-is : (memory : List ℕ) (k : ℕ) (feasibleSet : States) → FeasibleFrom heads sets path len 0 memory → k ≤ len → feasibleSet ≡ setAt memory k → feasibleSet ≡ rest k
+  unfolding FeasibleFrom
+  filled-is memory k feasibleSet w h e = e ∙ w k (omega arith) h
 
 -- Two bytes more behind i others.
 pair-front : (m : List ℕ) (i b s : ℕ) → i + 1 < length m → take (i + 2) (set (set m i b) (i + 1) s) ≡ take i m ++ (b ∷ s ∷ [])
@@ -265,11 +265,11 @@ module _ (heads sets : List ℕ) where
   trace-next e from [] = refl
   trace-next e from (d ∷ h) = refl
 
-  -- The least state of a set from which the rest can be gone.
-  chosen : (from way both : States) (h : History) (s : ℕ) → way ≡ feasible heads sets h → both ≡ setOf (λ t. member from t && member way t) → s ≡ leastOf (members both)
+  -- The least state of a set from which the rest rest be gone.
+  chosen : (from feasibleSet both : States) (h : History) (s : ℕ) → feasibleSet ≡ feasible heads sets h → both ≡ setOf (λ t. member from t && member feasibleSet t) → s ≡ leastOf (members both)
       → s ≡ leastOn heads sets from h
   unfolding leastOn
-  chosen from way both h s w b e = e ∙ ap (λ (x : States). leastOf (members x)) (b ∙ ap (λ (x : States). setOf (λ t. member from t && member x t)) w)
+  chosen from feasibleSet both h s w b e = e ∙ ap (λ (x : States). leastOf (members x)) (b ∙ ap (λ (x : States). setOf (λ t. member from t && member x t)) w)
 
   module _ (path : List ℕ) (len : ℕ) where
     -- What is shown from place k on, behind state s.
@@ -280,19 +280,19 @@ module _ (heads sets : List ℕ) where
     unfolding stepsFrom
     onward-none s = rw (path-none path len)
 
-    onward-more : (k s t action reply : ℕ) (one from way both : States) → k < len → action ≡ getD path k 0 / 8 → reply ≡ getD path k 0 % 8 → one ≡ setOf (λ u. eqb u s)
-        → from ≡ stepped heads sets one action reply → way ≡ can heads sets path len (k + 1)
-        → both ≡ setOf (λ u. member from u && member way u) → t ≡ leastOf (members both)
+    onward-more : (k s t action reply : ℕ) (one from feasibleSet both : States) → k < len → action ≡ getD path k 0 / 8 → reply ≡ getD path k 0 % 8 → one ≡ setOf (λ u. eqb u s)
+        → from ≡ stepped heads sets one action reply → feasibleSet ≡ rest heads sets path len (k + 1)
+        → both ≡ setOf (λ u. member from u && member feasibleSet u) → t ≡ leastOf (members both)
         → getD path k 0 ∷ t ∷ onward (k + 1) t ≡ onward k s
     unfolding stepsFrom after
-    onward-more k s t action reply one from way both h xa xr o f w b e =
+    onward-more k s t action reply one from feasibleSet both h xa xr o f w b e =
         let x = getD path k 0 in
         let h′ = pathFrom path (k + 1) (len - (k + 1)) in
         let from′ = after heads sets (entry (x / 8) (x % 8)) s in
         let byte : x ≡ x / 8 * 8 + x % 8 = omega arith in
         let there : from ≡ after heads sets (entry (x / 8) (x % 8)) s =
         f ∙ ap₂ (λ (y z : ℕ). stepped heads sets one y z) xa xr ∙ ap (λ (z : States). stepped heads sets z (x / 8) (x % 8)) o in
-        let state : t ≡ leastOn heads sets (after heads sets (entry (x / 8) (x % 8)) s) h′ = chosen from way both h′ t w b e ∙ ap (λ (z : States). leastOn heads sets z h′) there in
+        let state : t ≡ leastOn heads sets (after heads sets (entry (x / 8) (x % 8)) s) h′ = chosen from feasibleSet both h′ t w b e ∙ ap (λ (z : States). leastOn heads sets z h′) there in
         ap₂ (λ (y z : ℕ). y ∷ z ∷ stepsFrom h′ z) byte state ∙ trace-next (entry (x / 8) (x % 8)) from′ h′ ∙ sym (ap (λ (g : History). stepsFrom g s) (path-more path len k h))
 
     -- What a memory m holds at place k, m₀ being what it held at the first: the trace up to there, and behind it what stood there.
@@ -304,11 +304,11 @@ module _ (heads sets : List ℕ) where
     pub at-start : (m₀ : List ℕ) (s₀ : ℕ) → At m₀ s₀ m₀ 0 s₀
     at-start m₀ s₀ = record { size = refl; behind = refl; front = refl }
 
-    pub at-more : (m₀ : List ℕ) (s₀ : ℕ) (m : List ℕ) (k s t action reply : ℕ) (one from way both : States) → k < len → 2 * k + 2 < length m
-        → action ≡ getD path k 0 / 8 → reply ≡ getD path k 0 % 8 → one ≡ setOf (λ u. eqb u s) → from ≡ stepped heads sets one action reply → way ≡ can heads sets path len (k + 1)
-        → both ≡ setOf (λ u. member from u && member way u) → t ≡ leastOf (members both)
+    pub at-more : (m₀ : List ℕ) (s₀ : ℕ) (m : List ℕ) (k s t action reply : ℕ) (one from feasibleSet both : States) → k < len → 2 * k + 2 < length m
+        → action ≡ getD path k 0 / 8 → reply ≡ getD path k 0 % 8 → one ≡ setOf (λ u. eqb u s) → from ≡ stepped heads sets one action reply → feasibleSet ≡ rest heads sets path len (k + 1)
+        → both ≡ setOf (λ u. member from u && member feasibleSet u) → t ≡ leastOf (members both)
         → At m₀ s₀ m k s → At m₀ s₀ (set (set m (2 * k + 1) (getD path k 0)) (2 * k + 2) t) (k + 1) t
-    at-more m₀ s₀ m k s t action reply one from way both h l xa xr o f w b e a =
+    at-more m₀ s₀ m k s t action reply one from feasibleSet both h l xa xr o f w b e a =
         let x = getD path k 0 in
         let i1 : 2 * k + 1 + 1 ≡ 2 * k + 2 = omega arith in
         let i2 : 2 * (k + 1) + 1 ≡ 2 * k + 1 + 2 = omega arith in
@@ -319,7 +319,7 @@ module _ (heads sets : List ℕ) where
               ∙ drop-drop 2 (2 * k + 1) m₀ ∙ ap (λ (n : ℕ). drop n m₀) (sym i2);
           front = ap (λ (n : ℕ). take n M ++ onward (k + 1) t) i2 ∙ ap (λ (y : List ℕ). y ++ onward (k + 1) t) (pair-front m (2 * k + 1) x t (omega arith))
               ∙ append-assoc (take (2 * k + 1) m) (x ∷ t ∷ []) (onward (k + 1) t)
-              ∙ ap (λ (y : List ℕ). take (2 * k + 1) m ++ y) (onward-more k s t action reply one from way both h xa xr o f w b e) ∙ a .front;
+              ∙ ap (λ (y : List ℕ). take (2 * k + 1) m ++ y) (onward-more k s t action reply one from feasibleSet both h xa xr o f w b e) ∙ a .front;
         })
 
     at-end : (m₀ : List ℕ) (s₀ : ℕ) (m : List ℕ) (s : ℕ) → 2 * len < length m → At m₀ s₀ m len s → m ≡ written (take 1 m₀ ++ onward 0 s₀) m₀
@@ -337,12 +337,12 @@ module _ (heads sets : List ℕ) where
     first-over [] s rest h = absurd (omega arith)
     first-over (x ∷ old) s rest h = refl
 
-    pub shown-all : (start way both : States) (old m : List ℕ) (s₀ k s : ℕ) → 0 < length old → 2 * len < length m → k ≡ len → way ≡ can heads sets path len 0
-        → both ≡ setOf (λ u. member start u && member way u) → s₀ ≡ leastOf (members both) → At (set old 0 s₀) s₀ m k s
+    pub shown-all : (start feasibleSet both : States) (old m : List ℕ) (s₀ k s : ℕ) → 0 < length old → 2 * len < length m → k ≡ len → feasibleSet ≡ rest heads sets path len 0
+        → both ≡ setOf (λ u. member start u && member feasibleSet u) → s₀ ≡ leastOf (members both) → At (set old 0 s₀) s₀ m k s
         → m ≡ written (trace (pathFrom path 0 len) (leastStates heads sets start (pathFrom path 0 len))) old
-    shown-all start way both old m s₀ k s h l end w b e a =
+    shown-all start feasibleSet both old m s₀ k s h l end w b e a =
         let z : len - 0 ≡ len = omega arith in
-        let c = chosen start way both (pathFrom path 0 (len - 0)) s₀ w b e in
+        let c = chosen start feasibleSet both (pathFrom path 0 (len - 0)) s₀ w b e in
         at-end (set old 0 s₀) s₀ m s l (subst (λ (j : ℕ). At (set old 0 s₀) s₀ m j s) end a)
         ∙ first-over old s₀ (onward 0 s₀) h
         ∙ ap (λ (x : List ℕ). written x old) (ap (λ (x : ℕ). x ∷ onward 0 x) c ∙ trace-first start (pathFrom path 0 (len - 0)))

@@ -1,9 +1,9 @@
--- `verifier::least::way_at` meets its contract: the four words are those of the set. Assumes nothing.
+-- `verifier::least::feasible_at` meets its contract: the four words are those of the set. Assumes nothing.
 use native.Mathlib.Omega.{arith}
 use Rattle.routine.proofs.MemoryLaws.{set-in}
 use borrow.Author.Needs.{needs}
-use Rattle.verifier.proofs.least.way_at.Statement.{statement}
-use Rattle.verifier.proofs.least.way_at.Tie as tie
+use Rattle.verifier.proofs.least.feasible_at.Statement.{statement}
+use Rattle.verifier.proofs.least.feasible_at.Tie as tie
 
 mul-t3 : tie.Need-mul-t3
 mul-t3 c = search needs
@@ -53,8 +53,8 @@ element-copy-out-t25 c = search needs
 returns : tie.Need-returns
 returns c = set-in _ _ (omega (arith, c .before .before .before .before .pre))
 
-pub way-at-spec : {M : Type 1} → statement M
-way-at-spec =
+pub feasible-at-spec : {M : Type 1} → statement M
+feasible-at-spec =
     tie.close
     (tie.spec
     mul-t3

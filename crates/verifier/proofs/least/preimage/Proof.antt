@@ -1,10 +1,10 @@
--- `verifier::least::back` meets its contract: each return by the law of its case (proofs/WayLaws.antt). Assumes nothing.
+-- `verifier::least::preimage` meets its contract: each return by the law of its case (proofs/FeasibleLaws.antt). Assumes nothing.
 use mathlib.Core.Path.{_∙_}
 use native.Mathlib.Omega.{arith}
-use Rattle.verifier.proofs.WayLaws.{back-none, back-rows, back-same}
+use Rattle.verifier.proofs.FeasibleLaws.{preimage-none, preimage-rows, preimage-same}
 use borrow.Author.Needs.{needs}
-use Rattle.verifier.proofs.least.back.Statement.{statement}
-use Rattle.verifier.proofs.least.back.Tie as tie
+use Rattle.verifier.proofs.least.preimage.Statement.{statement}
+use Rattle.verifier.proofs.least.preimage.Tie as tie
 
 head-at-requires : tie.Need-head-at-requires
 head-at-requires c κs = search needs
@@ -13,7 +13,7 @@ empty-requires : tie.Need-empty-requires
 empty-requires c κs = search needs
 
 returns : tie.Need-returns
-returns c = c .empty .ensures ∙ back-none _ _ _ _ _ _ (c .before .before .before .head-at .ensures .0) (c .before .if1 .taken)
+returns c = c .empty .ensures ∙ preimage-none _ _ _ _ _ _ (c .before .before .before .head-at .ensures .0) (c .before .if1 .taken)
 
 add-set-at : tie.Need-add-set-at
 add-set-at c = search needs
@@ -30,15 +30,15 @@ meeting-requires c κs = search needs
 returns-2 : tie.Need-returns-2
 returns-2 c =
     let h = c .before .before .before .before .before .before .before .before .head-at in
-    c .meeting .ensures ∙ back-rows _ _ _ _ _ (h .result) (h .ensures .0) _ _ (omega arith) (c .before .before .before .before .set-at .ensures) (c .before .before .before .intersect .ensures) (c .before .if2 .taken)
+    c .meeting .ensures ∙ preimage-rows _ _ _ _ _ (h .result) (h .ensures .0) _ _ (omega arith) (c .before .before .before .before .set-at .ensures) (c .before .before .before .intersect .ensures) (c .before .if2 .taken)
 
 returns-3 : tie.Need-returns-3
 returns-3 c =
     let h = c .before .before .before .before .before .before .before .head-at in
-    back-same _ _ _ _ _ (h .result) (h .ensures .0) _ _ (omega arith) (c .before .before .before .set-at .ensures) (c .before .before .intersect .ensures) (c .if2 .left)
+    preimage-same _ _ _ _ _ (h .result) (h .ensures .0) _ _ (omega arith) (c .before .before .before .set-at .ensures) (c .before .before .intersect .ensures) (c .if2 .left)
 
-pub back-spec : {M : Type 1} → statement M
-back-spec =
+pub preimage-spec : {M : Type 1} → statement M
+preimage-spec =
     tie.close
     (tie.spec
     head-at-requires
