@@ -7,7 +7,7 @@ use mathlib.Core.Bool.{Bool, true}
 use native.Mathlib.Omega.{arith}
 use lib.ListN.{length, take, drop, getD}
 use borrow.Author.Tests.{lt-ltb}
-use Rattle.lists.specs.Lists.{if_then_else_, every}
+use Rattle.lists.specs.Lists.{if_then_else_}
 use Rattle.states.specs.declared.States.{States}
 use Rattle.states.specs.Sets.{member, setOf, members}
 use Rattle.states.proofs.SetLaws.{members-mem, mem-members}
@@ -24,9 +24,9 @@ use Rattle.semantics.specs.Routine.{perform, routine, Follows, isFull}
 use Rattle.semantics.specs.Verdict.{Verdict as Meant, historyCount, valid, invalid, stopped, Outcome, outcome, written, Verified, verified}
 use Rattle.semantics.specs.Checker.{checkedFor, checked}
 use Rattle.semantics.specs.Replies.{leftAfter}
-use Rattle.semantics.specs.Progression.{possible, satisfies, startSet, setAfter}
+use Rattle.semantics.specs.Progression.{possible, startSet, setAfter}
 use Rattle.semantics.proofs.RunLaws.{tested-holds, holds-tested}
-use Rattle.semantics.proofs.ProgressionLaws.{possible-run, run-possible, holds-possible, set-states}
+use Rattle.semantics.proofs.ProgressionLaws.{possible-run, run-possible, set-states}
 use Rattle.semantics.proofs.VerdictLaws.{stopped-means, means-stopped, valid-means, means-valid, invalid-means, means-invalid}
 use Rattle.semantics.proofs.ReplyLaws.{isDone, full-left, left-next, next-follows}
 use Rattle.semantics.proofs.MemoryLaws.{verified-accepted, verified-refused, memory-kept, begins}
@@ -38,9 +38,8 @@ use Rattle.routine.specs.Tables.{sheetStart, sheetHeads, nodeCells, setWords, p
 use Rattle.routine.proofs.TableLaws.{noStates, Tabled, prepared-tabled, ready-sheet, refused-sheet}
 use Rattle.progression.specs.declared.place.Place.{Place}
 use Rattle.progression.specs.Machine.{knownBy, settled, stepped}
-use Rattle.progression.proofs.PlaceLaws.{table-known}
 use Rattle.progression.proofs.StepLaws.{tabled-step, members-possible, member-states}
-use Rattle.progression.proofs.RoutineLaws.{after-more, Reached, AtAction, AtEnd, start-reached, reached-place}
+use Rattle.progression.proofs.RoutineLaws.{after-more, known-after, Reached, AtAction, AtEnd, start-reached, reached-place}
 use Rattle.verifier.specs.declared.verdict.Verdict.{Verdict}
 use Rattle.verifier.specs.Answers.{answerOf as verifiedOf}
 use Rattle.checker.specs.declared.Checked.{Checked}
@@ -204,11 +203,10 @@ module _ (library : Library) (contracts : Contracts library) where
     carried-known : (h : History) (set : States) → Carried library heads sets start (length (sheet .actions)) h set
         → (k : ℕ) (f : Objective) → setAt sets k ≡ setOf (λ s. holds f s) → (b : Bool) → library .knows sets k set b
         → (b ≡ true) ↔ ((run : List ℕ) → IsRun sheet h run → holds f (lastState run) ≡ true)
-    unfolding Holds Known holdsAfter knownBy satisfies
+    unfolding Holds Known holdsAfter
     carried-known h set c k f e b call =
-        let same : members set ≡ possible sheet h = ap members (carried-set h set c) ∙ members-possible sheet few h in
         let tested : b ≡ holdsAfter sheet h (known f) =
-        contracts .known-contract sets k set b call ∙ table-known (setAt sets) set k f e ∙ ap (every (holds f)) same ∙ sym (holds-possible sheet h (known f)) in
+        contracts .known-contract sets k set b call ∙ known-after sheet heads nodes sets bytes (tables .read) tabled h set (carried-set h set c) k f e in
         (λ t. tested-holds sheet h (known f) (sym tested ∙ t), λ t. tested ∙ holds-tested sheet h (known f) t)
 
     -- The place and the set to which calls come are those of the routine.

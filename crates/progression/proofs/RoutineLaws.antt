@@ -127,6 +127,13 @@ module _ (sheet : Sheet) (heads nodes sets : List ℕ) where
       set-is = refl;
     }
 
+    -- What a table of the memory says is known of the states possible after a history exactly if the formula of that table is known after it.
+    pub known-after : (h : History) (set : States) → set ≡ setOf (setAfter sheet (startSet sheet) h) → (k : ℕ) (f : Objective) → setAt sets k ≡ setOf (λ s. holds f s)
+        → knownBy sets set k ≡ knownAfter sheet h f
+    unfolding knownBy satisfies holdsAfter
+    known-after h set possible-after k f e =
+        table-known (setAt sets) set k f e ∙ ap (λ (ss : List ℕ). satisfies ss (known f)) (ap members possible-after ∙ members-possible sheet few h) ∙ sym (holds-possible sheet h (known f))
+
     -- Where the states of a set are possible that were reached by a history.
     module _ (h : History) (i : ℕ) (set : States) (reached : Reached h i set) where
       abbrev at : ℕ → Place
@@ -142,11 +149,6 @@ module _ (sheet : Sheet) (heads nodes sets : List ℕ) where
       -- What holds of the set is what holds after the history.
       pub same-truth : (f : Epistemic) → satisfies (members set) f ≡ holdsAfter sheet h f
       same-truth f = ap (λ (ss : List ℕ). satisfies ss f) (ap members (reached .set-is) ∙ members-possible sheet few h) ∙ sym (holds-possible sheet h f)
-
-      -- What a table of the memory says is known of the set exactly if the formula of that table is known after the history.
-      pub known-after : (k : ℕ) (f : Objective) → setAt sets k ≡ setOf (λ s. holds f s) → knownBy sets set k ≡ knownAfter sheet h f
-      unfolding knownBy satisfies holdsAfter
-      known-after k f e = table-known (setAt sets) set k f e ∙ same-truth (known f)
 
       at-action : (a : ℕ) (rest : Program) (ps : List Program) → Settling (act a rest ∷ ps) → leftAfter (routine sheet) (replies h) ≡ policies sheet (act a rest ∷ ps) h → AtAction h i set
       unfolding policies policy
