@@ -223,7 +223,7 @@ fn lengths() -> Vec<Vec<u8>> {
 }
 
 /// One fact, nothing to do, and the goal reached.
-fn plain() -> Sheet {
+pub fn plain() -> Sheet {
     Sheet {
         edition: 1,
         facts: 1,

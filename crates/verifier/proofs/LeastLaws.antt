@@ -75,9 +75,6 @@ module _ (sheet : Sheet) (few : sheet .facts ≤ 8) (heads nodes sets : List ℕ
   unfolding nextStates
   next-keep e s = refl
 
-  next-listed : (e : Entry) (s : ℕ) (test : ℕ → Bool) → exists test (keep (step sheet e s) (states sheet)) ≡ exists test (nextStates sheet e s)
-  next-listed e s test = ap (exists test) (next-keep e s)
-
   -- A history can be gone from a state exactly if some run goes on from it.
   feasible-is : (h : History) → Replied sheet h → (s : ℕ) → isState sheet s ≡ true → member (feasible heads sets h) s ≡ nonempty (runsFrom sheet s h)
   unfolding feasible runsFrom nonempty Replied
@@ -170,7 +167,7 @@ module _ (sheet : Sheet) (few : sheet .facts ≤ 8) (heads nodes sets : List ℕ
           → headD (flatMap (λ s. runsFrom sheet s (e ∷ h)) (keep from (states sheet))) [] ≡ leastStates heads sets (setOf from) (e ∷ h)
       go deeper =
           let onward : exists (λ s. nonempty (runsFrom sheet s h)) (keep (λ t. isState sheet t && step sheet e first t) (states sheet)) ≡ true =
-          ap (exists (λ s. nonempty (runsFrom sheet s h))) (keep-states (step sheet e first)) ∙ next-listed e first (λ s. nonempty (runsFrom sheet s h)) ∙ sym (some-flat (λ t. runsFrom sheet t h) (nextStates sheet e first)) ∙ goes in
+          ap (exists (λ s. nonempty (runsFrom sheet s h))) (keep-states (step sheet e first)) ∙ ap (exists (λ s. nonempty (runsFrom sheet s h))) (next-keep e first) ∙ sym (some-flat (λ t. runsFrom sheet t h) (nextStates sheet e first)) ∙ goes in
           head-flat (λ s. runsFrom sheet s (e ∷ h)) [] (keep from (states sheet)) some ∙ head-map (λ run. first ∷ run) [] [] later goes
           ∙ ap (λ (rest : List ℕ). first ∷ rest)
           (ap (λ (ts : List ℕ). headD (flatMap (λ t. runsFrom sheet t h) ts) []) (sym (keep-states (step sheet e first) ∙ next-keep e first))

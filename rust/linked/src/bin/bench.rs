@@ -28,21 +28,13 @@ fn main() {
     let section = std::env::args().nth(1);
     let wanted = |name: &str| section.as_deref().is_none_or(|section| section == name);
     if wanted("reading") {
-        println!("reading");
-        println!(
-            "{:<66} {:>5} {:>6} {:>11} {:>11} {:>7}",
-            "sheet", "bytes", "answer", "proved ns", "Rust ns", "ratio"
-        );
+        sheet_heading("reading", "answer");
         for (name, bytes) in sheets() {
             reading_row(&name, &bytes);
         }
     }
     if wanted("tables") {
-        println!("\nreading and tables");
-        println!(
-            "{:<66} {:>5} {:>6} {:>11} {:>11} {:>7}",
-            "sheet", "bytes", "sets", "proved ns", "Rust ns", "ratio"
-        );
+        sheet_heading("\nreading and tables", "sets");
         for (name, bytes) in prepared_sheets() {
             prepare_row(&name, &bytes);
         }
@@ -66,6 +58,14 @@ fn main() {
         println!("\nverifying, 8 facts where none are named");
         verify_rows();
     }
+}
+
+fn sheet_heading(title: &str, told: &str) {
+    println!("{title}");
+    println!(
+        "{:<66} {:>5} {told:>6} {:>11} {:>11} {:>7}",
+        "sheet", "bytes", "proved ns", "Rust ns", "ratio"
+    );
 }
 
 fn reading_row(name: &str, bytes: &[u8]) {

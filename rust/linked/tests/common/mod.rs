@@ -5,7 +5,7 @@
 use std::collections::BTreeSet;
 
 use linked::{plain, Tables, Verdict};
-use recovery::edges::edges;
+use recovery::edges::{self, edges};
 use recovery::encode::encode;
 use recovery::print::lines;
 use recovery::random::{damaged, good, Random, Size};
@@ -138,7 +138,7 @@ pub fn choices(random: &mut Random) -> Sheet {
         actions,
         goal: Epistemic::NotKnown(Objective::True),
         program: sequence(&numbers),
-        ..plain_sheet()
+        ..edges::plain()
     }
 }
 
@@ -199,7 +199,7 @@ pub fn many(random: &mut Random) -> Sheet {
         actions,
         goal,
         program,
-        ..plain_sheet()
+        ..edges::plain()
     }
 }
 
@@ -207,14 +207,14 @@ pub fn many(random: &mut Random) -> Sheet {
 pub fn longest() -> [Vec<u8>; 2] {
     let sheet = encode(&Sheet {
         start: wide(1362),
-        ..plain_sheet()
+        ..edges::plain()
     });
     assert_eq!(sheet.len(), MAX_BYTES);
     let trace = encode(&Sheet {
         actions: vec![Action::Change(Objective::True)],
         goal: Epistemic::Known(Objective::Fact(0)),
         program: sequence(&[0; 64]),
-        ..plain_sheet()
+        ..edges::plain()
     });
     [sheet, trace]
 }
@@ -224,18 +224,6 @@ fn wide(leaves: usize) -> Objective {
     match leaves {
         1 => Objective::True,
         _ => wide(leaves / 2).and(wide(leaves - leaves / 2)),
-    }
-}
-
-/// One fact, nothing to do, and the goal reached.
-pub fn plain_sheet() -> Sheet {
-    Sheet {
-        edition: 1,
-        facts: 1,
-        actions: vec![],
-        start: Objective::True,
-        goal: Epistemic::Known(Objective::True),
-        program: Program::End,
     }
 }
 
@@ -282,7 +270,7 @@ pub fn straight(replies: &[u8]) -> Sheet {
     Sheet {
         actions: telling_nothing(),
         program: sequence(&numbers(replies)),
-        ..plain_sheet()
+        ..edges::plain()
     }
 }
 
@@ -314,7 +302,7 @@ pub fn branched(then: u32, otherwise: u32) -> Sheet {
 /// probe gave its last reply, which alone tells the probe's fact.
 pub fn last_fails(count: u32) -> Sheet {
     let replies = reply_counts(count);
-    let mut sheet = plain_sheet();
+    let mut sheet = edges::plain();
     let mut goal = Epistemic::Known(Objective::False);
     for (number, &most) in replies.iter().enumerate() {
         let mut told = vec![Objective::True; usize::from(most)];
