@@ -15,8 +15,8 @@ use Rattle.reader.specs.Syntax.{Objective, Epistemic, known, not-known, all-of,
 use Rattle.reader.specs.Truth.{holds}
 use Rattle.reader.specs.Format.{Answer, accepted, refused, reading}
 use Rattle.reader.specs.declared.sheet.Answer.{Answer as Said}
-use Rattle.reader.specs.Answers.{numberOf, answerOf as readOf, withoutSheet}
-use Rattle.reader.proofs.AnswerLaws.{same-answer}
+use Rattle.reader.specs.Answers.{numberOf, answerOf as readOf, withoutValue}
+use Rattle.reader.proofs.AnswerLaws.{same-answer, was-accepted, was-refused}
 use Rattle.reader.proofs.StateLaws.{state-byte}
 use Rattle.reader.proofs.SheetLaws.{accepted-shape}
 use Rattle.semantics.specs.Runs.{Entry, entry, History, extended, replies, IsRun, lastState, Known, Holds, holdsAfter}
@@ -44,33 +44,16 @@ use Rattle.verifier.specs.declared.verdict.Verdict.{Verdict}
 use Rattle.verifier.specs.Answers.{answerOf as verifiedOf}
 use Rattle.checker.specs.declared.Checked.{Checked}
 use Rattle.checker.specs.Shown.{answerOf as checkedOf}
+use Rattle.runner.specs.declared.answer.Reported.{Reported}
+use Rattle.runner.specs.Records.{reportOn, recordAfter}
+use Rattle.runner.specs.Answers.{rejectionNumber, reportedOf}
+use Rattle.runner.proofs.CallLaws.{refused-unchanged}
 use Rattle.claims.specs.Demands.{Atom, Condition, Tested, Library, Prepares, Carried, begin, onward, Reaches, first, further, Demand1, Demand2, Supposed, Demand3Verdict, Demand3}
-use Rattle.claims.proofs.NumberLaws.{verdict-one, check-one as checked-one, prepared-one}
+use Rattle.claims.proofs.Contracts.{Contracts}
+use Rattle.claims.proofs.NumberLaws.{verdict-one, check-one as checked-one, prepared-one, told-one, reported-one}
+use Rattle.claims.proofs.CallLaws.{ListsRun, after-lists, none-told}
 
--- What the contracts say of calls.
-pub record Contracts (library : Library) : Type 0 where
-  pub read-contract : (bytes : List ℕ) (a : Said) → library .reads bytes a → readOf a ≡ withoutSheet (reading bytes)
-  pub prepare-contract : (bytes heads nodes sets : List ℕ) (p : Prepared) (heads′ nodes′ sets′ : List ℕ) → library .prepares bytes heads nodes sets p heads′ nodes′ sets′
-      → (preparedOf p ≡ startOf (reading bytes)) × (heads′ ≡ prepared sheetHeads (reading bytes) heads) × (nodes′ ≡ prepared nodeCells (reading bytes) nodes)
-      × (sets′ ≡ prepared setWords (reading bytes) sets)
-  pub settle-contract : (nodes sets : List ℕ) (set : States) (at : ℕ) (p : Place) → library .settles nodes sets set at p → p ≡ settled nodes sets set at
-  pub step-contract : (heads sets : List ℕ) (set : States) (a r : ℕ) (next : States) → library .steps heads sets set a r next → next ≡ stepped heads sets set a r
-  pub known-contract : (sets : List ℕ) (k : ℕ) (set : States) (b : Bool) → library .knows sets k set b → b ≡ knownBy sets set k
-  pub verify-contract : (bytes : List ℕ) (budget : ℕ) (old : List ℕ) (r : Verdict) (memory : List ℕ) → library .verifies bytes budget old r memory
-      → (verifiedOf r ≡ verified bytes budget old .answer) × (memory ≡ verified bytes budget old .memory)
-  pub check-contract : (bytes shown : List ℕ) (r : Checked) → library .checks bytes shown r → checkedOf r ≡ checked bytes shown
-
--- The reader and the checker, by the sheet's reading.
-without-accepted : (x : Answer Sheet) → accepted tt ≡ withoutSheet x → (sheet : Sheet) × (x ≡ accepted sheet)
-unfolding withoutSheet
-without-accepted (accepted sheet) e = (sheet, refl)
-without-accepted (refused r) e = let z : _≡_ {A = ℕ} 0 1 = cc in absurd (omega arith)
-
-without-refused : (x : Answer Sheet) (k : ℕ) → refused k ≡ withoutSheet x → x ≡ refused k
-unfolding withoutSheet
-without-refused (accepted sheet) k e = let z : _≡_ {A = ℕ} 0 1 = cc in absurd (omega arith)
-without-refused (refused r) k e = cc
-
+-- The checker, by the sheet's reading.
 checked-refused : (shown : List ℕ) (x : Answer Sheet) (k : ℕ) → refused k ≡ checkedFor shown x → x ≡ refused k
 unfolding checkedFor
 checked-refused shown (accepted sheet) k e = let z : _≡_ {A = ℕ} 0 1 = cc in absurd (omega arith)
@@ -119,10 +102,10 @@ tested-set f sheet t =
     Memᴰ·append-right (sheetActionSets sheet)
     (⊎-elim (λ g. Memᴰ·append-right (programSets (sheet .program)) (atom-set f (sheet .goal) g)) (λ c. Memᴰ·append-left (atomSets (sheet .goal)) (condition-set f (c .0) (c .2) (sheet .program) (c .1))) t)
 
-module _ (library : Library) (contracts : Contracts library) where
+module _ {ℓ} (library : Library {ℓ}) (contracts : Contracts library) where
   -- Demand 1.
   pub demand1 : Demand1 library
-  unfolding verifiedOf
+  unfolding verifiedOf reportedOf recordAfter
   demand1 = record {
     memory-holds = λ bytes budget old r memory call.
         let v = contracts .verify-contract bytes budget old r memory call in
@@ -141,11 +124,21 @@ module _ (library : Library) (contracts : Contracts library) where
           ap length (v .1) ∙ k .8,
         ))
         (memory-kept bytes budget old);
+    next-keeps = λ r t call. contracts .next-contract r t call .1;
+    refused-keeps = λ r x t call why e.
+        let c = contracts .report-contract r x t call in
+        c .1 ∙ sym (refused-unchanged r (rejectionNumber why) (reportOn r x) (sym (ap reportedOf e) ∙ c .0));
     read-fixed = contracts .read-contract;
     verify-fixed = contracts .verify-contract;
     check-fixed = contracts .check-contract;
+    load-fixed = contracts .load-contract;
+    next-fixed = λ r t call. contracts .next-contract r t call .0;
+    report-fixed = contracts .report-contract;
+    read-one = same-answer;
     verify-one = verdict-one;
     check-one = checked-one;
+    told-one = told-one;
+    reported-one = reported-one;
     short-first = λ bytes budget old r memory call l.
         let v = contracts .verify-contract bytes budget old r memory call in
         let w = verified-short bytes budget old l in
@@ -273,14 +266,17 @@ module _ (library : Library) (contracts : Contracts library) where
 
   -- Demand 2.
   pub demand2 : Demand2 library
-  unfolding readOf verifiedOf checkedOf withoutSheet checked checkedFor preparedOf startOf
+  unfolding readOf verifiedOf checkedOf withoutValue checked checkedFor preparedOf startOf
   demand2 = record {
     read-accepts = λ bytes a call.
         let e = contracts .read-contract bytes a call in
-        (λ k. without-accepted (reading bytes) (sym (ap readOf k) ∙ e), λ q. same-answer a Said.Accepted (e ∙ ap withoutSheet (q .1)));
+        (λ k. was-accepted (reading bytes) (sym (ap readOf k) ∙ e), λ q. same-answer a Said.Accepted (e ∙ ap withoutValue (q .1)));
     read-refuses = λ bytes a call r.
         let e = contracts .read-contract bytes a call in
-        (λ k. without-refused (reading bytes) (numberOf r) (sym (ap readOf k) ∙ e), λ q. same-answer a (Said.Refused r) (e ∙ ap withoutSheet q));
+        (λ k. was-refused (reading bytes) (numberOf r) (sym (ap readOf k) ∙ e), λ q. same-answer a (Said.Refused r) (e ∙ ap withoutValue q));
+    load-refuses = λ bytes l call r.
+        let e = contracts .load-contract bytes l call .0 in
+        (λ k. was-refused (reading bytes) (numberOf r) (sym (ap readOf k) ∙ e), λ q. same-answer (l .answer) (Said.Refused r) (e ∙ ap withoutValue q));
     verify-refuses = λ bytes budget old a memory call enough r.
         let e = contracts .verify-contract bytes budget old a memory call .0 in (
           λ k. verified-number bytes budget old enough (numberOf r) (sym (ap verifiedOf k) ∙ e),
@@ -321,7 +317,7 @@ module _ (library : Library) (contracts : Contracts library) where
     verdict-is q v e =
         (λ k. let d : accepted (outcome sheet budget .verdict) ≡ accepted v = sym (answered .0) ∙ ap verifiedOf k ∙ e in cc, λ k. verdict-one r q (answered .0 ∙ ap accepted k ∙ sym e))
 
-    demand3-verdict : Demand3Verdict library bytes sheet budget old r memory
+    pub demand3-verdict : Demand3Verdict library bytes sheet budget old r memory
     unfolding verifiedOf
     demand3-verdict = record {
       invalid-exactly = λ within. (
@@ -353,11 +349,17 @@ module _ (library : Library) (contracts : Contracts library) where
       );
     }
 
-  pub demand3 : Demand3 library
-  demand3 = record {
+  -- Demand 3, where every list of calls can be made.
+  pub demand3 : ListsRun library → Demand3 library
+  demand3 run = record {
     atoms-stand = λ bytes sheet heads nodes sets start tables f t.
         let m = mem-get noStates (sheetSets sheet) (tested-set f sheet t) in
         (m .0, tabled bytes sheet heads nodes sets start tables .set-is (m .0) (m .1) ∙ m .2);
     known-exactly = λ bytes sheet heads nodes sets start tables h run p set c. carried-known bytes sheet heads nodes sets start tables h set c;
-    verdict = λ bytes sheet budget old r memory supposed. demand3-verdict bytes sheet budget old r memory supposed;
+    verdict = demand3-verdict;
+    lists = after-lists library contracts;
+    valid-told = λ bytes sheet budget old r memory supposed within l call.
+        let exactly = demand3-verdict bytes sheet budget old r memory supposed .valid-exactly within in
+        let told = none-told library contracts bytes sheet (supposed .read) run l call in
+        (λ e. told .0 (exactly .0 e), λ k. exactly .1 (told .1 k));
   }

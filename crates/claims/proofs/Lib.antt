@@ -1,4 +1,12 @@
 pub mod NumberLaws
+pub mod Contracts
+pub mod CallLaws
+pub mod GivenLaws
 pub mod DemandLaws
+pub mod Promises
+pub mod Machine
+pub mod Lowered
+pub mod SetLaws
+pub mod Runs
+pub mod RunnerRuns
 pub mod Demands
-pub mod Ends

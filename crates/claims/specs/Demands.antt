@@ -1,9 +1,9 @@
--- The demands, sentence by sentence, as statements about calls of the library's functions. (Of demands 1 and 3, what they say of the verifier.)
+-- The demands, sentence by sentence, as statements about calls of the library's functions.
 use Prim.Native.Nat.{ℕ, _+_, _*_, _≤_, _<_}
 use mathlib.Core.Path.{_≡_}
 use mathlib.Core.Logic.{_⊎_, _↔_}
-use mathlib.Core.List.{List, [], _∷_, _++_}
-use mathlib.Core.Bool.{Bool, true}
+use mathlib.Core.List.{List, [], _∷_, _++_, map}
+use mathlib.Core.Bool.{Bool, true, false}
 use lib.ListN.{length, take, drop}
 use Rattle.states.specs.declared.States.{States}
 use Rattle.states.specs.Sets.{member, setOf}
@@ -12,7 +12,7 @@ use Rattle.reader.specs.Truth.{holds}
 use Rattle.reader.specs.Format.{accepted, refused, reading}
 use Rattle.reader.specs.declared.refusal.Refusal.{Refusal}
 use Rattle.reader.specs.declared.sheet.Answer.{Answer as Said}
-use Rattle.reader.specs.Answers.{numberOf, answerOf as readOf, withoutSheet}
+use Rattle.reader.specs.Answers.{numberOf, answerOf as readOf, withoutValue}
 use Rattle.semantics.specs.Runs.{Entry, History, extended, IsRun, lastState, Holds}
 use Rattle.semantics.specs.Routine.{routine, Follows, isFull, Failing}
 use Rattle.semantics.specs.Verdict.{historyCount, trace, TraceBefore, verified}
@@ -25,6 +25,16 @@ use Rattle.verifier.specs.declared.verdict.Verdict.{Verdict}
 use Rattle.verifier.specs.Answers.{answerOf as verifiedOf}
 use Rattle.checker.specs.declared.Checked.{Checked}
 use Rattle.checker.specs.Shown.{answerOf as checkedOf}
+use Rattle.runner.specs.declared.answer.Rejection.{Rejection}
+use Rattle.runner.specs.declared.answer.Told.{Told}
+use Rattle.runner.specs.declared.answer.Reported.{Reported}
+use Rattle.runner.specs.declared.kept.Record.{Record}
+use Rattle.runner.specs.declared.kept.AfterLoad.{AfterLoad}
+use Rattle.runner.specs.declared.kept.AfterNext.{AfterNext}
+use Rattle.runner.specs.declared.kept.AfterReport.{AfterReport}
+use Rattle.runner.specs.Records.{loaded, nextOn, reportOn, recordAfter}
+use Rattle.runner.specs.Answers.{toldOf, reportedOf}
+use Rattle.claims.specs.Calls.{Call, Event, callOf, Bytes, acceptedIn, Calls, AfterCalls}
 
 -- An objective formula is that of an atom, "known" or "not known", of an epistemic formula; an epistemic formula is a condition of a program.
 unfoldable pub Atom : Objective → Epistemic → Type 0
@@ -42,18 +52,33 @@ unfoldable pub Tested : Objective → Sheet → Type 0
 Tested f sheet = Atom f (sheet .goal) ⊎ ((e : Epistemic) × Condition e (sheet .program) × Atom f e)
 
 -- What a call of each function may give back: by the values of its arguments, its result and, where memory is lent to be written, what that holds before and after.
-pub record Library : Type 1 where
-  pub reads : (bytes : List ℕ) → Said → Type 0
-  pub prepares : (bytes heads nodes sets : List ℕ) → Prepared → (heads′ nodes′ sets′ : List ℕ) → Type 0
-  pub settles : (nodes sets : List ℕ) → States → (at : ℕ) → Place → Type 0
-  pub steps : (heads sets : List ℕ) → States → (action reply : ℕ) → States → Type 0
-  pub knows : (sets : List ℕ) (k : ℕ) → States → Bool → Type 0
-  pub verifies : (bytes : List ℕ) (budget : ℕ) (old : List ℕ) → Verdict → (memory : List ℕ) → Type 0
-  pub checks : (bytes shown : List ℕ) → Checked → Type 0
+pub record Library {ℓ} : Type (ℓ + 1) where
+  pub reads : (bytes : List ℕ) → Said → Type ℓ
+  pub prepares : (bytes heads nodes sets : List ℕ) → Prepared → (heads′ nodes′ sets′ : List ℕ) → Type ℓ
+  pub settles : (nodes sets : List ℕ) → States → (at : ℕ) → Place → Type ℓ
+  pub steps : (heads sets : List ℕ) → States → (action reply : ℕ) → States → Type ℓ
+  pub knows : (sets : List ℕ) (k : ℕ) → States → Bool → Type ℓ
+  pub verifies : (bytes : List ℕ) (budget : ℕ) (old : List ℕ) → Verdict → (memory : List ℕ) → Type ℓ
+  pub checks : (bytes shown : List ℕ) → Checked → Type ℓ
+  pub loads : (bytes : List ℕ) → AfterLoad → Type ℓ
+  pub tells : Record → AfterNext → Type ℓ
+  pub reports : Record → (reply : ℕ) → AfterReport → Type ℓ
 
-module _ (library : Library) where
+-- The values with which each function can be called: of lent memory, what it holds; of a record, `holds`. (A reply is a byte.)
+pub record Callable {ℓ} : Type (ℓ + 1) where
+  pub can-read : (bytes : List ℕ) → Type ℓ
+  pub can-prepare : (bytes heads nodes sets : List ℕ) → Type ℓ
+  pub can-settle : (nodes sets : List ℕ) → States → (at : ℕ) → Type ℓ
+  pub can-step : (heads sets : List ℕ) → States → (action reply : ℕ) → Type ℓ
+  pub can-know : (sets : List ℕ) (k : ℕ) → States → Type ℓ
+  pub can-verify : (bytes : List ℕ) (budget : ℕ) (old : List ℕ) → Type ℓ
+  pub can-check : (bytes shown : List ℕ) → Type ℓ
+  pub can-load : (bytes : List ℕ) → Type ℓ
+  pub holds : Record → Type ℓ
+
+module _ {ℓ} (library : Library {ℓ}) where
   -- The tables of a sheet, made in memory of the right size: so many heads of three numbers, nodes of four and sets of four words.
-  pub record Prepares (bytes : List ℕ) (sheet : Sheet) (heads nodes sets : List ℕ) (start : States) : Type 0 where
+  pub record Prepares (bytes : List ℕ) (sheet : Sheet) (heads nodes sets : List ℕ) (start : States) : Type ℓ where
     pub read : reading bytes ≡ accepted sheet
     pub heads₀ : List ℕ
     pub nodes₀ : List ℕ
@@ -64,44 +89,71 @@ module _ (library : Library) where
     pub made : library .prepares bytes heads₀ nodes₀ sets₀ (Prepared.Ready start) heads nodes sets
 
   -- The set that calls of `step` make along a history, from the start set on.
-  pub data Carried (heads sets : List ℕ) (start : States) (actions : ℕ) : History → States → Type 0 where
+  pub data Carried (heads sets : List ℕ) (start : States) (actions : ℕ) : History → States → Type ℓ where
     begin : Carried heads sets start actions [] start
     onward : (h : History) (set : States) (a r : ℕ) (next : States) → Carried heads sets start actions h set → a < actions → library .steps heads sets set a r next
         → Carried heads sets start actions (extended h a r) next
 
   -- The place and the set to which calls of `settle` and `step` come by a history, from the first node and the start set on.
-  pub data Reaches (heads nodes sets : List ℕ) (start : States) : History → (at : ℕ) → States → Type 0 where
+  pub data Reaches (heads nodes sets : List ℕ) (start : States) : History → (at : ℕ) → States → Type ℓ where
     first : Reaches heads nodes sets start [] 0 start
     further : (h : History) (at : ℕ) (set : States) (node a r : ℕ) (next : States) → Reaches heads nodes sets start h at set → library .settles nodes sets set at (Place.Act node a)
         → library .steps heads sets set a r next → Reaches heads nodes sets start (extended h a r) (node + 1) next
 
-  -- Demand 1, of the verifier.
-  pub record Demand1 : Type 0 where
+  -- Demand 1: "every call ends".
+  pub record Ending (callable : Callable {ℓ}) : Type ℓ where
+    pub read-ends : (bytes : List ℕ) → callable .can-read bytes → ∥ ((a : Said) × library .reads bytes a) ∥₁
+    pub prepare-ends : (bytes heads nodes sets : List ℕ) → callable .can-prepare bytes heads nodes sets
+        → ∥ ((p : Prepared) × (heads′ : List ℕ) × (nodes′ : List ℕ) × (sets′ : List ℕ) × library .prepares bytes heads nodes sets p heads′ nodes′ sets′) ∥₁
+    pub settle-ends : (nodes sets : List ℕ) (set : States) (at : ℕ) → callable .can-settle nodes sets set at → ∥ ((p : Place) × library .settles nodes sets set at p) ∥₁
+    pub step-ends : (heads sets : List ℕ) (set : States) (a r : ℕ) → callable .can-step heads sets set a r → ∥ ((next : States) × library .steps heads sets set a r next) ∥₁
+    pub know-ends : (sets : List ℕ) (k : ℕ) (set : States) → callable .can-know sets k set → ∥ ((b : Bool) × library .knows sets k set b) ∥₁
+    pub verify-ends : (bytes : List ℕ) (budget : ℕ) (old : List ℕ) → callable .can-verify bytes budget old
+        → ∥ ((r : Verdict) × (memory : List ℕ) × library .verifies bytes budget old r memory) ∥₁
+    pub check-ends : (bytes shown : List ℕ) → callable .can-check bytes shown → ∥ ((a : Checked) × library .checks bytes shown a) ∥₁
+    pub load-ends : (bytes : List ℕ) → callable .can-load bytes → ∥ ((l : AfterLoad) × library .loads bytes l) ∥₁
+    pub next-ends : (r : Record) → callable .holds r → ∥ ((t : AfterNext) × library .tells r t) ∥₁
+    pub report-ends : (r : Record) (x : ℕ) → x < 256 → callable .holds r → ∥ ((t : AfterReport) × library .reports r x t) ∥₁
+    -- And every list of calls can be made on a record that loading returned: each returns a record with which the next can be called.
+    pub lists-run : (bytes : List ℕ) (l : AfterLoad) → library .loads bytes l → (cs : List Call) → Bytes cs
+        → ∥ ((es : List Event) × (q : Record) × Calls (library .tells) (library .reports) (l .kept) es q × (map callOf es ≡ cs)) ∥₁
+
+  -- Demand 1, of what the calls give back.
+  pub record Demand1 : Type ℓ where
     -- "The lent trace memory holds, after every call on every input, either the failing trace followed by its old bytes, or only its old bytes." (The first with the
     -- answer "invalid" alone.)
     pub memory-holds : (bytes : List ℕ) (budget : ℕ) (old : List ℕ) (r : Verdict) (memory : List ℕ) → library .verifies bytes budget old r memory
         → ((memory ≡ old) × ((c l : ℕ) → r ≡ Verdict.Invalid c l → ⊥))
         ⊎ ((sheet : Sheet) × (h : History) × (run : List ℕ) × (reading bytes ≡ accepted sheet) × Failing sheet h run × (r ≡ Verdict.Invalid (historyCount sheet) (length h))
         × (memory ≡ trace h run ++ drop (length (trace h run)) old) × (length memory ≡ length old))
+    -- "The runner's record after a refused call on it is the record before it." ("Next" returns it in any case.)
+    pub next-keeps : (r : Record) (t : AfterNext) → library .tells r t → t .kept ≡ r
+    pub refused-keeps : (r : Record) (x : ℕ) (t : AfterReport) → library .reports r x t → (why : Rejection) → t .answer ≡ Reported.Refused why → t .kept ≡ r
     -- ".. with an answer that document 01 fixes": the one that the definitions give, with document 01's numbers and values; so the same call gets the same.
-    -- ("Every call ends": proofs/Ends.antt.)
-    pub read-fixed : (bytes : List ℕ) (a : Said) → library .reads bytes a → readOf a ≡ withoutSheet (reading bytes)
+    pub read-fixed : (bytes : List ℕ) (a : Said) → library .reads bytes a → readOf a ≡ withoutValue (reading bytes)
     pub verify-fixed : (bytes : List ℕ) (budget : ℕ) (old : List ℕ) (r : Verdict) (memory : List ℕ) → library .verifies bytes budget old r memory
         → (verifiedOf r ≡ verified bytes budget old .answer) × (memory ≡ verified bytes budget old .memory)
     pub check-fixed : (bytes shown : List ℕ) (a : Checked) → library .checks bytes shown a → checkedOf a ≡ checked bytes shown
+    pub load-fixed : (bytes : List ℕ) (l : AfterLoad) → library .loads bytes l → (readOf (l .answer) ≡ withoutValue (reading bytes)) × (l .kept ≡ loaded bytes)
+    pub next-fixed : (r : Record) (t : AfterNext) → library .tells r t → toldOf (t .answer) ≡ nextOn r
+    pub report-fixed : (r : Record) (x : ℕ) (t : AfterReport) → library .reports r x t → (reportedOf (t .answer) ≡ withoutValue (reportOn r x)) × (t .kept ≡ recordAfter r x)
     -- What an answer means tells the answer: no two answers have the same number and values.
+    pub read-one : (a b : Said) → readOf a ≡ readOf b → a ≡ b
     pub verify-one : (r q : Verdict) → verifiedOf r ≡ verifiedOf q → r ≡ q
     pub check-one : (a b : Checked) → checkedOf a ≡ checkedOf b → a ≡ b
+    pub told-one : (a b : Told) → toldOf a ≡ toldOf b → a ≡ b
+    pub reported-one : (a b : Reported) → reportedOf a ≡ reportedOf b → a ≡ b
     -- 30 for "trace memory under 129 bytes (before anything else)".
     pub short-first : (bytes : List ℕ) (budget : ℕ) (old : List ℕ) (r : Verdict) (memory : List ℕ) → library .verifies bytes budget old r memory
         → length old < 129 → (r ≡ Verdict.ShortMemory) × (memory ≡ old)
 
   -- Demand 2.
-  pub record Demand2 : Type 0 where
+  pub record Demand2 : Type ℓ where
     -- "A sheet is read .. as document 01 states": the reader accepts exactly the sheets in its form, and refuses every other with its number.
     pub read-accepts : (bytes : List ℕ) (a : Said) → library .reads bytes a → (a ≡ Said.Accepted) ↔ ((sheet : Sheet) × (reading bytes ≡ accepted sheet))
     pub read-refuses : (bytes : List ℕ) (a : Said) → library .reads bytes a → (r : Refusal) → (a ≡ Said.Refused r) ↔ (reading bytes ≡ refused (numberOf r))
-    -- "A sheet outside that form is refused, and no other is": so do the verifier, where the memory is long enough, and the trace checker.
+    -- "A sheet outside that form is refused, and no other is": so do loading, the verifier, where the memory is long enough, and the trace checker.
+    pub load-refuses : (bytes : List ℕ) (l : AfterLoad) → library .loads bytes l → (r : Refusal) → (l .answer ≡ Said.Refused r) ↔ (reading bytes ≡ refused (numberOf r))
     pub verify-refuses : (bytes : List ℕ) (budget : ℕ) (old : List ℕ) (a : Verdict) (memory : List ℕ) → library .verifies bytes budget old a memory → 129 ≤ length old
         → (r : Refusal) → (a ≡ Verdict.Refused r) ↔ (reading bytes ≡ refused (numberOf r))
     pub check-refuses : (bytes shown : List ℕ) (a : Checked) → library .checks bytes shown a → (r : Refusal) → (a ≡ Checked.Refused r) ↔ (reading bytes ≡ refused (numberOf r))
@@ -129,12 +181,12 @@ module _ (library : Library) where
   -- Demand 3, of the verdict: "Suppose a sheet is accepted, the trace memory is long enough and the budget is at least document 01's count, which the answer carries."
   -- (The budget is supposed where a sentence needs it.)
   module _ (bytes : List ℕ) (sheet : Sheet) (budget : ℕ) (old : List ℕ) (r : Verdict) (memory : List ℕ) where
-    pub record Supposed : Type 0 where
+    pub record Supposed : Type ℓ where
       pub read : reading bytes ≡ accepted sheet
       pub enough : 129 ≤ length old
       pub call : library .verifies bytes budget old r memory
 
-    pub record Demand3Verdict : Type 0 where
+    pub record Demand3Verdict : Type ℓ where
       -- "The verdict is "invalid" exactly when some full run following the routine fails the goal, so read."
       pub invalid-exactly : historyCount sheet ≤ budget → ((l : ℕ) × (r ≡ Verdict.Invalid (historyCount sheet) l)) ↔ ((h : History) × (run : List ℕ) × Failing sheet h run)
       -- "The trace shown is such a run, and every other such run comes later in document 01's order."
@@ -145,7 +197,7 @@ module _ (library : Library) where
       pub valid-exactly : historyCount sheet ≤ budget → (r ≡ Verdict.Valid (historyCount sheet)) ↔ ((h : History) (run : List ℕ) → Failing sheet h run → ⊥)
       pub stopped-exactly : (r ≡ Verdict.Stopped budget) ↔ (budget < historyCount sheet)
 
-  pub record Demand3 : Type 0 where
+  pub record Demand3 : Type ℓ where
     -- "A formula is known after a run exactly when it is true at the end of every run alike in actions and replies": the test of a formula that stands as set k of the
     -- tables, after the history of a run. Every formula of an atom of the goal or of a condition stands there.
     pub atoms-stand : (bytes : List ℕ) (sheet : Sheet) (heads nodes sets : List ℕ) (start : States) → Prepares bytes sheet heads nodes sets start
@@ -156,3 +208,18 @@ module _ (library : Library) where
         → (b ≡ true) ↔ ((other : List ℕ) → IsRun sheet h other → holds f (lastState other) ≡ true)
     pub verdict : (bytes : List ℕ) (sheet : Sheet) (budget : ℕ) (old : List ℕ) (r : Verdict) (memory : List ℕ) → Supposed bytes sheet budget old r memory
         → Demand3Verdict bytes sheet budget old r memory
+    -- "Take any list of "Next" and "Report" calls, refused ones included, from a record freshly loaded with the sheet." What holds after it: specs/Calls.antt.
+    pub lists : (bytes : List ℕ) (sheet : Sheet) → reading bytes ≡ accepted sheet → (l : AfterLoad) → library .loads bytes l
+        → (es : List Event) (q : Record) → Calls (library .tells) (library .reports) (l .kept) es q → AfterCalls (library .tells) (library .reports) sheet (acceptedIn es) q
+    -- "The verdict is "valid" exactly when "Next" says after no such list that the goal fails."
+    pub valid-told : (bytes : List ℕ) (sheet : Sheet) (budget : ℕ) (old : List ℕ) (r : Verdict) (memory : List ℕ) → Supposed bytes sheet budget old r memory
+        → historyCount sheet ≤ budget → (l : AfterLoad) → library .loads bytes l
+        → (r ≡ Verdict.Valid (historyCount sheet))
+        ↔ ((es : List Event) (q : Record) → Calls (library .tells) (library .reports) (l .kept) es q → (t : AfterNext) → library .tells q t → t .answer ≡ Told.End false → ⊥)
+
+  -- The demands.
+  pub record Demands (callable : Callable {ℓ}) : Type ℓ where
+    pub ends : Ending callable
+    pub demand1 : Demand1
+    pub demand2 : Demand2
+    pub demand3 : Demand3

@@ -6,7 +6,7 @@ use native.Mathlib.Omega.{arith}
 use Rattle.states.specs.declared.States.{States}
 use Rattle.reader.specs.Syntax.{Sheet}
 use Rattle.reader.specs.Format.{Answer, accepted, refused}
-use Rattle.reader.specs.Answers.{withoutSheet}
+use Rattle.reader.specs.Answers.{withoutValue}
 use Rattle.routine.specs.Memory.{write, words, setAt}
 use Rattle.routine.specs.Tables.{startOf, prepared}
 use Rattle.progression.specs.declared.place.Place.{Place}
@@ -15,8 +15,8 @@ use Rattle.semantics.specs.Verdict.{Verdict}
 use Rattle.exports.specs.Numbers.{numberFor, startWords, verdictNumbers, verdictMemory}
 
 -- An answer has the same number without its sheet.
-pub number-without : {A : Type 0} (a : Answer A) → numberFor (withoutSheet a) ≡ numberFor a
-unfolding withoutSheet numberFor
+pub number-without : {A : Type 0} (a : Answer A) → numberFor (withoutValue a) ≡ numberFor a
+unfolding withoutValue numberFor
 number-without (accepted x) = refl
 number-without (refused r) = refl
 

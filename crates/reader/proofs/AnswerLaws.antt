@@ -1,10 +1,11 @@
 -- A refusal is determined by its number, and the answer of `read` by what it means: so its contract gives it outright. Assumes nothing.
 use Prim.Native.Nat.{ℕ}
 use mathlib.Core.Path.{_≡_, refl, sym, ap, _∙_}
+use native.Mathlib.Omega.{arith}
 use lib.Dec.{eqb}
 use Rattle.lists.specs.Lists.{if_then_else_}
 use Rattle.reader.specs.Format.{Answer, accepted, refused}
-use Rattle.reader.specs.Answers.{numberOf, answerOf}
+use Rattle.reader.specs.Answers.{numberOf, answerOf, withoutValue}
 use Rattle.reader.specs.declared.refusal.Refusal.{Refusal}
 use Rattle.reader.specs.declared.sheet.Answer.{Answer as Said}
 
@@ -62,3 +63,14 @@ said-answer (Said.Refused r) = ap Said.Refused (number-refusal r)
 -- Answers with the same meaning are the same.
 pub same-answer : (a b : Said) → answerOf a ≡ answerOf b → a ≡ b
 same-answer a b e = sym (said-answer a) ∙ ap saidOf e ∙ said-answer b
+
+-- What an answer without its value tells of the answer.
+pub was-accepted : {A : Type 0} (x : Answer A) → accepted tt ≡ withoutValue x → (a : A) × (x ≡ accepted a)
+unfolding withoutValue
+was-accepted (accepted a) e = (a, refl)
+was-accepted (refused k) e = let z : _≡_ {A = ℕ} 0 1 = cc in absurd (omega arith)
+
+pub was-refused : {A : Type 0} (x : Answer A) (k : ℕ) → refused k ≡ withoutValue x → x ≡ refused k
+unfolding withoutValue
+was-refused (accepted a) k e = let z : _≡_ {A = ℕ} 0 1 = cc in absurd (omega arith)
+was-refused (refused j) k e = cc

@@ -18,7 +18,7 @@ use Rattle.reader.specs.Bits.{bitsOnto, bitsAt}
 use Rattle.reader.specs.Truth.{isState, states, truth, holds}
 use Rattle.reader.specs.Format.{refused, Read, got, fault, Reader, andThen, mapped, _>>=_, give, refuse, check, field, objective, epistemic, action, actionList, ProgramRead, programWithin, isEdition, sheetFields, isPadding, hasStart, leadsOn, hasReply, unless, faults, decided, afterFields, reading}
 use Rattle.reader.specs.Nodes.{Header, header, ofSheet}
-use Rattle.reader.specs.Answers.{withoutSheet, ending, counts, table}
+use Rattle.reader.specs.Answers.{withoutValue, ending, counts, table}
 use Rattle.reader.specs.Stages.{sizeOf, actionFaults, ended, tested, testedList, spaceOf, afterProgram, afterStart, afterActions, afterHeader, answerAt, stages}
 use Rattle.reader.specs.declared.formula.View.{View}
 use Rattle.reader.proofs.FormatLaws.{field-got}
@@ -76,15 +76,15 @@ tested-list space n (suc k) bytes p actions q e = first (action n bytes p) e (λ
     first (fault z) j h = never j
 
 -- The first of the faults decides.
-decided-ended : (xs : List ℕ) (sheet : Sheet) (p : ℕ) → withoutSheet (decided xs sheet) ≡ answerAt (ended xs p)
-unfolding withoutSheet decided answerAt ended
+decided-ended : (xs : List ℕ) (sheet : Sheet) (p : ℕ) → withoutValue (decided xs sheet) ≡ answerAt (ended xs p)
+unfolding withoutValue decided answerAt ended
 decided-ended [] sheet p = refl
 decided-ended (x ∷ xs) sheet p = refl
 
 -- Behind the program: the padding, a start state, and the actions' tests.
 decided-stages : (pad start : Bool) (xs : List ℕ) (sheet : Sheet) (q : ℕ)
-    → withoutSheet (decided (unless pad 12 ++ unless start 13 ++ xs) sheet) ≡ answerAt (if pad then (if start then ended xs q else fault 13) else fault 12)
-unfolding withoutSheet decided answerAt unless if_then_else_
+    → withoutValue (decided (unless pad 12 ++ unless start 13 ++ xs) sheet) ≡ answerAt (if pad then (if start then ended xs q else fault 13) else fault 12)
+unfolding withoutValue decided answerAt unless if_then_else_
 decided-stages true true xs sheet q = decided-ended xs sheet q
 decided-stages true false xs sheet q = refl
 decided-stages false start xs sheet q = refl
@@ -161,7 +161,7 @@ bodyWith programOf n k = do
 module _ (bytes : List ℕ) (n k : ℕ) (few : n ≤ 8) where
   -- Behind the program the stages tell what the tests after the fields do.
   stages-program : (actions : List Action) (p : ℕ) → actionList n k bytes 13 ≡ got actions p → (start : Objective) (goal : Epistemic) (program : Program) (q : ℕ)
-      → withoutSheet (afterFields bytes (got (sheetOf n actions start goal program) q)) ≡ answerAt (afterProgram bytes n k (table View.States start) q)
+      → withoutValue (afterFields bytes (got (sheetOf n actions start goal program) q)) ≡ answerAt (afterProgram bytes n k (table View.States start) q)
   unfolding afterFields faults afterProgram leadsOn hasReply actionFaults
   stages-program actions p e start goal program q =
       decided-stages (isPadding bytes q) (hasStart sheet) (flatMap (actionFaults (states sheet)) actions) sheet p
@@ -175,75 +175,75 @@ module _ (bytes : List ℕ) (n k : ℕ) (few : n ≤ 8) where
       tests = ap (λ (space : List ℕ). ended (flatMap (actionFaults space) actions) p) (sym (space-states sheet few)) ∙ sym (tested-list (spaceOf n) n k bytes 13 actions p e)
 
   -- Behind the header the stages tell what the fields and the tests after them do.
-  stages-body : withoutSheet (afterFields bytes (bodyWith program128 n k bytes 13)) ≡ answerAt (afterHeader bytes n k)
-  unfolding afterHeader afterActions afterStart _>>=_ andThen mapped give afterFields withoutSheet answerAt
+  stages-body : withoutValue (afterFields bytes (bodyWith program128 n k bytes 13)) ≡ answerAt (afterHeader bytes n k)
+  unfolding afterHeader afterActions afterStart _>>=_ andThen mapped give afterFields withoutValue answerAt
   stages-body = one (actionList n k bytes 13) refl
     where
       four : (actions : List Action) (p : ℕ) → actionList n k bytes 13 ≡ got actions p → (start : Objective) (goal : Epistemic) (r : Read ProgramRead)
-          → withoutSheet (afterFields bytes (andThen r (λ c i. got (sheetOf n actions start goal (c .program)) i))) ≡ answerAt (andThen (mapped counts r) (λ c i. afterProgram bytes n k (table View.States start) i))
+          → withoutValue (afterFields bytes (andThen r (λ c i. got (sheetOf n actions start goal (c .program)) i))) ≡ answerAt (andThen (mapped counts r) (λ c i. afterProgram bytes n k (table View.States start) i))
       four actions p e start goal (got c i) = stages-program actions p e start goal (c .program) i
       four actions p e start goal (fault z) = refl
 
       three : (actions : List Action) (p : ℕ) → actionList n k bytes 13 ≡ got actions p → (start : Objective) (r : Read Epistemic)
-          → withoutSheet (afterFields bytes (andThen r (λ goal i. andThen (programWithin n k 128 0 0 bytes i) (λ c j. got (sheetOf n actions start goal (c .program)) j))))
+          → withoutValue (afterFields bytes (andThen r (λ goal i. andThen (programWithin n k 128 0 0 bytes i) (λ c j. got (sheetOf n actions start goal (c .program)) j))))
           ≡ answerAt (andThen (mapped ending r) (λ u i. andThen (mapped counts (programWithin n k 128 0 0 bytes i)) (λ c j. afterProgram bytes n k (table View.States start) j)))
       three actions p e start (got goal i) = four actions p e start goal (programWithin n k 128 0 0 bytes i)
       three actions p e start (fault z) = refl
 
       two : (actions : List Action) (p : ℕ) → actionList n k bytes 13 ≡ got actions p → (r : Read Objective)
-          → withoutSheet (afterFields bytes (andThen r (λ start h. andThen (epistemic n 16 bytes h) (λ goal i. andThen (programWithin n k 128 0 0 bytes i) (λ c j. got (sheetOf n actions start goal (c .program)) j)))))
+          → withoutValue (afterFields bytes (andThen r (λ start h. andThen (epistemic n 16 bytes h) (λ goal i. andThen (programWithin n k 128 0 0 bytes i) (λ c j. got (sheetOf n actions start goal (c .program)) j)))))
           ≡ answerAt (andThen (mapped (table View.States) r) (afterStart bytes n k))
       two actions p e (got start h) = three actions p e start (epistemic n 16 bytes h)
       two actions p e (fault z) = refl
 
       one : (r : Read (List Action)) → actionList n k bytes 13 ≡ r
-          → withoutSheet (afterFields bytes (andThen r (λ actions p. andThen (objective n false 16 bytes p) (λ start h. andThen (epistemic n 16 bytes h) (λ goal i. andThen (programWithin n k 128 0 0 bytes i) (λ c j. got (sheetOf n actions start goal (c .program)) j))))))
+          → withoutValue (afterFields bytes (andThen r (λ actions p. andThen (objective n false 16 bytes p) (λ start h. andThen (epistemic n 16 bytes h) (λ goal i. andThen (programWithin n k 128 0 0 bytes i) (λ c j. got (sheetOf n actions start goal (c .program)) j))))))
           ≡ answerAt (andThen (mapped ending r) (λ u p. afterActions bytes n k p))
       one (got actions p) e = two actions p e (objective n false 16 bytes p)
       one (fault z) e = refl
 
 -- The fields and the tests after them, by stages.
-stages-fields : (bytes : List ℕ) → withoutSheet (afterFields bytes (fieldsWith program128 bytes 0)) ≡ answerAt (andThen (header bytes 0) (λ h p. afterHeader bytes (h .facts) (h .actions)))
-unfolding header _>>=_ andThen check refuse give withoutSheet afterFields answerAt
+stages-fields : (bytes : List ℕ) → withoutValue (afterFields bytes (fieldsWith program128 bytes 0)) ≡ answerAt (andThen (header bytes 0) (λ h p. afterHeader bytes (h .facts) (h .actions)))
+unfolding header _>>=_ andThen check refuse give withoutValue afterFields answerAt
 stages-fields bytes = edition (field 4 bytes 0) refl
   where
     actions : (n p : ℕ) → n ≤ 8 → p ≡ 8 → (r : Read ℕ) → field 5 bytes p ≡ r
-        → withoutSheet (afterFields bytes (andThen r (λ k q. bodyWith program128 n k bytes q))) ≡ answerAt (andThen (andThen r (λ k q. got (headerOf n k) q)) (λ h q. afterHeader bytes (h .facts) (h .actions)))
+        → withoutValue (afterFields bytes (andThen r (λ k q. bodyWith program128 n k bytes q))) ≡ answerAt (andThen (andThen r (λ k q. got (headerOf n k) q)) (λ h q. afterHeader bytes (h .facts) (h .actions)))
     actions n p few at (got k q) e =
         let g = field-got 5 bytes p k q e in
         let end : q ≡ 13 = omega (arith, g .0) in
-        ap (λ (x : ℕ). withoutSheet (afterFields bytes (bodyWith program128 n k bytes x))) end ∙ stages-body bytes n k few
+        ap (λ (x : ℕ). withoutValue (afterFields bytes (bodyWith program128 n k bytes x))) end ∙ stages-body bytes n k few
     actions n p few at (fault z) e = refl
 
     tested-facts : (n p : ℕ) → p ≡ 8 → (b : Bool) → (leb 1 n && leb n 8) ≡ b
-        → withoutSheet (afterFields bytes (check b 4 (field 5 >>= λ k. bodyWith program128 n k) bytes p)) ≡ answerAt (andThen (check b 4 (field 5 >>= λ k. give (headerOf n k)) bytes p) (λ h q. afterHeader bytes (h .facts) (h .actions)))
+        → withoutValue (afterFields bytes (check b 4 (field 5 >>= λ k. bodyWith program128 n k) bytes p)) ≡ answerAt (andThen (check b 4 (field 5 >>= λ k. give (headerOf n k)) bytes p) (λ h q. afterHeader bytes (h .facts) (h .actions)))
     tested-facts n p at true t = actions n p (leb-true n 8 ((both-true (leb 1 n) (leb n 8) t) .1)) at (field 5 bytes p) refl
     tested-facts n p at false t = refl
 
     facts : (p : ℕ) → p ≡ 4 → (r : Read ℕ) → field 4 bytes p ≡ r
-        → withoutSheet (afterFields bytes (andThen r (λ n q. check (leb 1 n && leb n 8) 4 (field 5 >>= λ k. bodyWith program128 n k) bytes q)))
+        → withoutValue (afterFields bytes (andThen r (λ n q. check (leb 1 n && leb n 8) 4 (field 5 >>= λ k. bodyWith program128 n k) bytes q)))
         ≡ answerAt (andThen (andThen r (λ n q. check (leb 1 n && leb n 8) 4 (field 5 >>= λ k. give (headerOf n k)) bytes q)) (λ h q. afterHeader bytes (h .facts) (h .actions)))
     facts p at (got n q) e = let g = field-got 4 bytes p n q e in tested-facts n q (omega (arith, g .0)) (leb 1 n && leb n 8) refl
     facts p at (fault z) e = refl
 
     tested-edition : (p : ℕ) → p ≡ 4 → (b : Bool)
-        → withoutSheet (afterFields bytes (check b 3 (field 4 >>= λ n. check (leb 1 n && leb n 8) 4 (field 5 >>= λ k. bodyWith program128 n k)) bytes p))
+        → withoutValue (afterFields bytes (check b 3 (field 4 >>= λ n. check (leb 1 n && leb n 8) 4 (field 5 >>= λ k. bodyWith program128 n k)) bytes p))
         ≡ answerAt (andThen (check b 3 (field 4 >>= λ n. check (leb 1 n && leb n 8) 4 (field 5 >>= λ k. give (headerOf n k))) bytes p) (λ h q. afterHeader bytes (h .facts) (h .actions)))
     tested-edition p at true = facts p at (field 4 bytes p) refl
     tested-edition p at false = refl
 
     edition : (r : Read ℕ) → field 4 bytes 0 ≡ r
-        → withoutSheet (afterFields bytes (andThen r (λ e p. check (isEdition e) 3 (field 4 >>= λ n. check (leb 1 n && leb n 8) 4 (field 5 >>= λ k. bodyWith program128 n k)) bytes p)))
+        → withoutValue (afterFields bytes (andThen r (λ e p. check (isEdition e) 3 (field 4 >>= λ n. check (leb 1 n && leb n 8) 4 (field 5 >>= λ k. bodyWith program128 n k)) bytes p)))
         ≡ answerAt (andThen (andThen r (λ e p. check (isEdition e) 3 (field 4 >>= λ n. check (leb 1 n && leb n 8) 4 (field 5 >>= λ k. give (headerOf n k))) bytes p)) (λ h q. afterHeader bytes (h .facts) (h .actions)))
     edition (got v p) e = let g = field-got 4 bytes 0 v p e in tested-edition p (omega (arith, g .0)) (isEdition v)
     edition (fault z) e = refl
 
 -- The method tells what `reading` does.
-pub read-stages : (bytes : List ℕ) → withoutSheet (reading bytes) ≡ stages bytes
-unfolding reading sheetFields stages withoutSheet if_then_else_
+pub read-stages : (bytes : List ℕ) → withoutValue (reading bytes) ≡ stages bytes
+unfolding reading sheetFields stages withoutValue if_then_else_
 read-stages bytes = go (leb (length bytes) 1024)
   where
-    go : (b : Bool) → withoutSheet (if b then afterFields bytes (sheetFields bytes 0) else refused 1)
+    go : (b : Bool) → withoutValue (if b then afterFields bytes (sheetFields bytes 0) else refused 1)
         ≡ (if b then answerAt (andThen (header bytes 0) (λ h p. afterHeader bytes (h .facts) (h .actions))) else refused 1)
     go true = stages-fields bytes
     go false = refl

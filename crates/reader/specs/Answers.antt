@@ -38,10 +38,10 @@ unfolding numberOf
 answerOf Said.Accepted = accepted tt
 answerOf (Said.Refused r) = refused (numberOf r)
 
--- An answer without the sheet.
-unfoldable pub withoutSheet : {A : Type 0} → Answer A → Answer (Unit {0})
-withoutSheet (accepted a) = accepted tt
-withoutSheet (refused r) = refused r
+-- An answer without its value.
+unfoldable pub withoutValue : {A : Type 0} → Answer A → Answer (Unit {0})
+withoutValue (accepted a) = accepted tt
+withoutValue (refused r) = refused r
 
 -- What the code finds from a position on: a number; only where it ends; a set; the nodes counted so far.
 unfoldable pub fieldRead : Field → Read ℕ

@@ -21,7 +21,7 @@ ghost use mathlib.Core.Path.{_≡_};
 ghost use Prim.Native.Nat.{_≤_};
 ghost use lib.ListN.{length};
 ghost use Rattle.reader.specs.Format.{isPadding, reading};
-ghost use Rattle.reader.specs.Answers.{answerOf, withoutSheet, endRead};
+ghost use Rattle.reader.specs.Answers.{answerOf, withoutValue, endRead};
 ghost use Rattle.reader.specs.Stages.{sizeOf, afterProgram, afterStart, afterActions, afterHeader};
 
 // The reader's answer.
@@ -120,7 +120,7 @@ fn after_header(s: &[u8], n: usize, k: usize) -> Walked
 
 // Whether the bytes are a sheet, or why they are refused.
 pub fn read(s: &[u8]) -> Answer
-    ensures { λ r. ⌜ answerOf r ≡ withoutSheet (reading (now (s .entry))) ⌝ }
+    ensures { λ r. ⌜ answerOf r ≡ withoutValue (reading (now (s .entry))) ⌝ }
 {
     match header(s) {
         HeaderRead::Refused(r) => Answer::Refused(r),

@@ -14,7 +14,7 @@ use Rattle.reader.specs.Syntax.{Action, change, probe, replyCount, Sheet}
 use Rattle.reader.specs.Truth.{isState, truth, holds}
 use Rattle.reader.specs.Format.{Answer, accepted, refused, Read, got, fault, epistemic, reading}
 use Rattle.reader.specs.Nodes.{Header, header, ofSheet}
-use Rattle.reader.specs.Answers.{numberOf, withoutSheet, inTheory, table}
+use Rattle.reader.specs.Answers.{numberOf, withoutValue, inTheory, table}
 use Rattle.reader.specs.NodeAnswers.{headerRead}
 use Rattle.reader.specs.Standing.{Standing, ObjectiveAt, ActionsAt, ProgramAt}
 use Rattle.reader.specs.declared.refusal.Refusal.{Refusal}
@@ -251,20 +251,20 @@ module _ (bytes : List ℕ) (sheet : Sheet) (read : reading bytes ≡ accepted s
                   spread-on words words-four sets sets₁ sets₃ 0 (laid .set) (sheetActionSets sheet) (programSets (sheet .program) ++ atomSets (sheet .goal)) first-sets later (omega (arith, laid-set))
 
 -- What the reader's answer tells: a sheet that is accepted, or a refusal with which nothing is written.
-pub some-sheet : (bytes : List ℕ) → accepted tt ≡ withoutSheet (reading bytes) → Acceptable bytes
-unfolding withoutSheet
+pub some-sheet : (bytes : List ℕ) → accepted tt ≡ withoutValue (reading bytes) → Acceptable bytes
+unfolding withoutValue
 some-sheet bytes e = go (reading bytes) refl e
   where
-    go : (a : Answer Sheet) → reading bytes ≡ a → accepted tt ≡ withoutSheet a → Acceptable bytes
+    go : (a : Answer Sheet) → reading bytes ≡ a → accepted tt ≡ withoutValue a → Acceptable bytes
     go (accepted sheet) read e = record { sheet = sheet; read = read }
     go (refused r) read e = let z : _≡_ {A = ℕ} 0 1 = cc in absurd (omega arith)
 
-module _ (bytes : List ℕ) (r : ℕ) (no-sheet : refused r ≡ withoutSheet (reading bytes)) where
+module _ (bytes : List ℕ) (r : ℕ) (no-sheet : refused r ≡ withoutValue (reading bytes)) where
   refused-reading : reading bytes ≡ refused r
-  unfolding withoutSheet
+  unfolding withoutValue
   refused-reading = go (reading bytes) no-sheet
     where
-      go : (a : Answer Sheet) → refused r ≡ withoutSheet a → a ≡ refused r
+      go : (a : Answer Sheet) → refused r ≡ withoutValue a → a ≡ refused r
       go (accepted sheet) e = let z : _≡_ {A = ℕ} 0 1 = cc in absurd (omega arith)
       go (refused q) e = let w : r ≡ q = cc in ap refused (sym w)
 

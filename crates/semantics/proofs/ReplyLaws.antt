@@ -5,17 +5,18 @@ use mathlib.Core.Logic.{⊎-elim, _↔_}
 use mathlib.Core.List.{List, [], _∷_, _++_, map-append, append-nil, append-assoc, head-eq-of-cons-eq, tail-eq-of-cons-eq}
 use mathlib.Core.Bool.{Bool, true, false}
 use native.Mathlib.Omega.{arith}
-use lib.Dec.{ltb}
-use borrow.Author.Tests.{lt-ltb}
+use lib.Dec.{ltb, eqb}
+use lib.ListN.{length, length-map}
+use borrow.Author.Tests.{lt-ltb, eqb-true, eq-eqb}
 use Rattle.lists.specs.Lists.{if_then_else_, exists, nonempty}
-use Rattle.lists.proofs.ListLaws.{two-cases, same-test, not-both, keep-mem, mem-keep, exists-mem, mem-exists, mem-nonempty, nonempty-mem}
+use Rattle.lists.proofs.ListLaws.{two-cases, same-test, not-both, both-true, and-both, keep-mem, mem-keep, exists-mem, mem-exists, mem-nonempty, nonempty-mem}
 use Rattle.reader.specs.Syntax.{replyCount, Sheet, actionOf}
 use Rattle.reader.specs.Truth.{states}
 use Rattle.reader.specs.Format.{accepted, refused}
 use Rattle.semantics.specs.Runs.{Entry, entry, History, extended, replies, step, lastState, Holds, runs, holdsAfter, occurs}
 use Rattle.semantics.specs.Routine.{Policy, done, perform, routine, Follows, isFull, Following, Full, Failing}
 use Rattle.semantics.specs.Verdict.{historyCount, valid, Outcome, outcome}
-use Rattle.semantics.specs.Replies.{leftAfter, historyOf, to-do, at-end, toldBy, told, stillPossible, reportedTo, reported, AcceptedBehind, AcceptedReplies, RepliesOfRun}
+use Rattle.semantics.specs.Replies.{leftAfter, historyOf, to-do, at-end, toldBy, told, stillPossible, reportedTo, reported, AcceptedBehind, AcceptedReplies, RepliesOfRun, areOfRun}
 use Rattle.semantics.specs.Progression.{progress, possible}
 use Rattle.semantics.proofs.RunLaws.{listed-run, run-listed, occurs-run, run-occurs, occurs-before, tested-holds, holds-tested}
 use Rattle.semantics.proofs.ProgressionLaws.{possible-run, run-possible, possible-more, occurs-possible}
@@ -77,6 +78,19 @@ unfolding leftAfter historyOf Follows
 left-history p [] a after e = (follows-none p, refl)
 left-history done (r ∷ rs) a after e = let z : _≡_ {A = ℕ} 0 1 = cc in absurd (omega arith)
 left-history (perform b k) (r ∷ rs) a after e = let q = left-history (k r) rs a after e in ((refl, q .0), ap (λ (l : List ℕ). r ∷ l) (q .1))
+
+-- The history that replies make follows; where it is as long as they are, it has just these.
+history-follows : (p : Policy) (rs : List ℕ) → Follows p (historyOf p rs)
+unfolding historyOf Follows
+history-follows p [] = follows-none p
+history-follows done (r ∷ rs) = tt
+history-follows (perform a after) (r ∷ rs) = (refl, history-follows (after r) rs)
+
+history-replies : (p : Policy) (rs : List ℕ) → length (historyOf p rs) ≡ length rs → replies (historyOf p rs) ≡ rs
+unfolding historyOf
+history-replies p [] e = refl
+history-replies done (r ∷ rs) e = absurd (omega arith)
+history-replies (perform a after) (r ∷ rs) e = ap (λ (l : List ℕ). r ∷ l) (history-replies (after r) rs (omega arith))
 
 -- A history that follows has only such before it.
 pub follows-before : (p : Policy) (h g : History) → Follows p (h ++ g) → Follows p h
@@ -233,6 +247,24 @@ module _ (sheet : Sheet) where
       let n = left-next (routine sheet) h e g (f .1) in
       let k : to-do (e .action) ≡ to-do a = sym (told-behind h (follows-before (routine sheet) h (e ∷ g) (f .1)) ∙ ap (λ (q : Policy). toldBy sheet q h) (n .1)) ∙ ap (told sheet) s ∙ t in
       cc
+
+  -- Whether replies are those of some run following the routine, as a test.
+  pub of-run : (rs : List ℕ) → areOfRun sheet rs ≡ true → RepliesOfRun sheet rs
+  unfolding areOfRun RepliesOfRun Following
+  of-run rs e =
+      let h = historyOf (routine sheet) rs in
+      let b = both-true (eqb (length h) (length rs)) (occurs sheet h) e in
+      let w = occurs-run sheet h (b .1) in
+      (h, w .0, (w .1, history-follows (routine sheet) rs), history-replies (routine sheet) rs (eqb-true (length h) (length rs) (b .0)))
+
+  pub run-of : (rs : List ℕ) → RepliesOfRun sheet rs → areOfRun sheet rs ≡ true
+  unfolding areOfRun RepliesOfRun Following
+  run-of rs q =
+      let same : historyOf (routine sheet) rs ≡ q .0 = ap (historyOf (routine sheet)) (sym (q .3)) ∙ follows-history (routine sheet) (q .0) (q .2 .1) in
+      let long : length (q .0) ≡ length rs = sym (length-map (q .0) (λ (x : Entry). x .reply)) ∙ ap length (q .3) in
+      and-both (eqb (length (historyOf (routine sheet) rs)) (length rs)) (occurs sheet (historyOf (routine sheet) rs))
+      (eq-eqb (length (historyOf (routine sheet) rs)) (length rs) (ap length same ∙ long))
+      (ap (occurs sheet) same ∙ run-occurs sheet (q .0) (q .1) (q .2 .0))
 
   full-replies : (h : History) (run : List ℕ) → Full sheet h run → RepliesOfRun sheet (replies h)
   unfolding Full RepliesOfRun

@@ -1,15 +1,16 @@
 -- What the routine tells after a list of replies, and which further reply is accepted. Document 01, "The runner" and "From the memory and the record".
--- (The record, loading and refusal 31 stand with the runner.)
+-- (The record stands with the runner.)
 use Prim.Native.Nat.{ℕ}
 use mathlib.Core.Path.{_≡_}
 use mathlib.Core.List.{List, [], _∷_, _++_}
-use mathlib.Core.Bool.{Bool}
-use lib.Dec.{ltb}
+use mathlib.Core.Bool.{Bool, _&&_}
+use lib.Dec.{ltb, eqb}
+use lib.ListN.{length}
 use Rattle.lists.specs.Lists.{if_then_else_, exists}
 use Rattle.reader.specs.Syntax.{replyCount, Sheet, actionOf}
 use Rattle.reader.specs.Truth.{states}
 use Rattle.reader.specs.Format.{Answer, accepted, refused}
-use Rattle.semantics.specs.Runs.{Entry, History, entry, replies, step, runs, lastState, holdsAfter}
+use Rattle.semantics.specs.Runs.{Entry, History, entry, replies, step, runs, lastState, holdsAfter, occurs}
 use Rattle.semantics.specs.Routine.{Policy, done, perform, routine, Following}
 
 -- What is left of a policy after a list of replies, and the history that its actions and these replies make. (Past its end a policy takes no reply.)
@@ -66,3 +67,8 @@ AcceptedReplies sheet rs = AcceptedBehind sheet [] rs
 -- The replies are "those of some run following the routine".
 unfoldable pub RepliesOfRun : Sheet → (rs : List ℕ) → Type 0
 RepliesOfRun sheet rs = (h : History) × (run : List ℕ) × Following sheet h run × (replies h ≡ rs)
+
+-- The same as a test: the routine takes all of the replies, and some run has the history that its actions and they make. (ReplyLaws: `of-run`, `run-of`.)
+unfoldable pub areOfRun : Sheet → (rs : List ℕ) → Bool
+unfolding historyOf routine occurs
+areOfRun sheet rs = eqb (length (historyOf (routine sheet) rs)) (length rs) && occurs sheet (historyOf (routine sheet) rs)

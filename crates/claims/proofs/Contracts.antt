@@ -1,0 +1,41 @@
+-- What the contracts of the functions say, of any relations between arguments and results.
+use Prim.Native.Nat.{ℕ}
+use mathlib.Core.Path.{_≡_}
+use mathlib.Core.List.{List}
+use mathlib.Core.Bool.{Bool}
+use Rattle.states.specs.declared.States.{States}
+use Rattle.reader.specs.Format.{reading}
+use Rattle.reader.specs.declared.sheet.Answer.{Answer as Said}
+use Rattle.reader.specs.Answers.{answerOf as readOf, withoutValue}
+use Rattle.semantics.specs.Verdict.{verified}
+use Rattle.semantics.specs.Checker.{checked}
+use Rattle.routine.specs.declared.sheet.Prepared.{Prepared}
+use Rattle.routine.specs.Tables.{sheetHeads, nodeCells, setWords, preparedOf, startOf, prepared}
+use Rattle.progression.specs.declared.place.Place.{Place}
+use Rattle.progression.specs.Machine.{knownBy, settled, stepped}
+use Rattle.verifier.specs.declared.verdict.Verdict.{Verdict}
+use Rattle.verifier.specs.Answers.{answerOf as verifiedOf}
+use Rattle.checker.specs.declared.Checked.{Checked}
+use Rattle.checker.specs.Shown.{answerOf as checkedOf}
+use Rattle.runner.specs.declared.kept.Record.{Record}
+use Rattle.runner.specs.declared.kept.AfterLoad.{AfterLoad}
+use Rattle.runner.specs.declared.kept.AfterNext.{AfterNext}
+use Rattle.runner.specs.declared.kept.AfterReport.{AfterReport}
+use Rattle.runner.specs.Records.{loaded, nextOn, reportOn, recordAfter}
+use Rattle.runner.specs.Answers.{toldOf, reportedOf}
+use Rattle.claims.specs.Demands.{Library}
+
+pub record Contracts {ℓ} (library : Library {ℓ}) : Type ℓ where
+  pub read-contract : (bytes : List ℕ) (a : Said) → library .reads bytes a → readOf a ≡ withoutValue (reading bytes)
+  pub prepare-contract : (bytes heads nodes sets : List ℕ) (p : Prepared) (heads′ nodes′ sets′ : List ℕ) → library .prepares bytes heads nodes sets p heads′ nodes′ sets′
+      → (preparedOf p ≡ startOf (reading bytes)) × (heads′ ≡ prepared sheetHeads (reading bytes) heads) × (nodes′ ≡ prepared nodeCells (reading bytes) nodes)
+      × (sets′ ≡ prepared setWords (reading bytes) sets)
+  pub settle-contract : (nodes sets : List ℕ) (set : States) (at : ℕ) (p : Place) → library .settles nodes sets set at p → p ≡ settled nodes sets set at
+  pub step-contract : (heads sets : List ℕ) (set : States) (a r : ℕ) (next : States) → library .steps heads sets set a r next → next ≡ stepped heads sets set a r
+  pub known-contract : (sets : List ℕ) (k : ℕ) (set : States) (b : Bool) → library .knows sets k set b → b ≡ knownBy sets set k
+  pub verify-contract : (bytes : List ℕ) (budget : ℕ) (old : List ℕ) (r : Verdict) (memory : List ℕ) → library .verifies bytes budget old r memory
+      → (verifiedOf r ≡ verified bytes budget old .answer) × (memory ≡ verified bytes budget old .memory)
+  pub check-contract : (bytes shown : List ℕ) (r : Checked) → library .checks bytes shown r → checkedOf r ≡ checked bytes shown
+  pub load-contract : (bytes : List ℕ) (l : AfterLoad) → library .loads bytes l → (readOf (l .answer) ≡ withoutValue (reading bytes)) × (l .kept ≡ loaded bytes)
+  pub next-contract : (r : Record) (t : AfterNext) → library .tells r t → (toldOf (t .answer) ≡ nextOn r) × (t .kept ≡ r)
+  pub report-contract : (r : Record) (x : ℕ) (t : AfterReport) → library .reports r x t → (reportedOf (t .answer) ≡ withoutValue (reportOn r x)) × (t .kept ≡ recordAfter r x)

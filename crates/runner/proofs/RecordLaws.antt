@@ -1,0 +1,115 @@
+-- Laws of the record's definitions: zeros, padding, what is loaded, and whether a record is padded. Assumes nothing.
+use Prim.Native.Nat.{ℕ, suc, _+_, _-_, _≤_, _<_}
+use native.Mathlib.Numerals.{add-one}
+use native.Mathlib.Omega.{arith}
+use mathlib.Core.List.{List, _∷_, _++_, append-assoc}
+use mathlib.Core.Bool.{Bool, true, false, _&&_}
+use mathlib.Core.Path.{_≡_, refl, ap, _∙_}
+use lib.ListN.{length, replicate, take, drop, set, getD, length-drop, drop-of-length-le}
+use lib.Seq.{drop-cons, take-suc, take-all, take-length, set-at, length-take-le}
+use borrow.Author.Tests.{eq-eqb, ne-eqb, le-leb, lt-leb}
+use Rattle.reader.specs.Syntax.{Sheet}
+use Rattle.reader.specs.Format.{Answer, accepted, refused, reading}
+use Rattle.reader.specs.declared.refusal.Refusal.{Refusal}
+use Rattle.reader.specs.declared.sheet.Answer.{Answer as Said}
+use Rattle.reader.specs.Answers.{numberOf, answerOf, withoutValue}
+use Rattle.reader.proofs.AnswerLaws.{was-accepted, was-refused}
+use Rattle.reader.proofs.SheetLaws.{accepted-length}
+use Rattle.runner.specs.Records.{padded, areZero, zeros, loadedFor, loaded, isPadded}
+use Rattle.runner.specs.declared.kept.Record.{Record}
+
+module _ (s : List ℕ) (i : ℕ) where
+  -- Behind the end there are only zeros.
+  pub zero-end : length s ≤ i → areZero (drop i s) ≡ true
+  unfolding areZero
+  zero-end h = rw (drop-of-length-le s h)
+
+  -- From a byte that isn't 0 on, not every byte is 0.
+  pub zero-no : i < length s → (getD s i 0 ≡ 0 → ⊥) → areZero (drop i s) ≡ false
+  unfolding areZero
+  zero-no h n = rw (drop-cons s i 0 h, ne-eqb _ _ n)
+
+  -- From a byte 0 on, every byte is 0 if every byte behind it is.
+  pub zero-yes : i < length s → getD s i 0 ≡ 0 → areZero (drop i s) ≡ areZero (drop (i + 1) s)
+  unfolding areZero
+  zero-yes h n = rw (add-one, drop-cons s i 0 h, eq-eqb _ _ n)
+
+-- The first of some zeros.
+zeros-less : (n i : ℕ) → i < n → replicate {A = ℕ} (n - i) 0 ≡ 0 ∷ replicate {A = ℕ} (n - (i + 1)) 0
+zeros-less n i h =
+    let e : n - i ≡ suc (n - (i + 1)) = omega arith in
+    rw e
+
+-- One more byte is copied over the zeros.
+pub pad-more : (n : ℕ) (s : List ℕ) (i : ℕ) → i < length s → length s ≤ n
+    → set (take i s ++ replicate {A = ℕ} (n - i) 0) i (getD s i 0) ≡ take (i + 1) s ++ replicate {A = ℕ} (n - (i + 1)) 0
+pad-more n s i h k =
+    let l : i ≤ length s = omega arith in
+    let m : i < n = omega arith in
+    rw (zeros-less n i m, set-at (take i s) 0 (replicate {A = ℕ} (n - (i + 1)) 0) (getD s i 0) i (length-take-le i s l), add-one, take-suc s i 0 h, append-assoc)
+
+-- Every byte is copied.
+pub pad-end : (n : ℕ) (s : List ℕ) (i : ℕ) → i ≡ length s → take i s ++ replicate {A = ℕ} (n - i) 0 ≡ padded n s
+unfolding padded
+pad-end n s i e = rw (e, take-length s)
+
+-- The part of an array of n bytes from k on.
+pub part-rest : (n k : ℕ) (l : List ℕ) → length l ≡ n → take (n - k) (drop k l) ≡ drop k l
+part-rest n k l e = take-all (n - k) (drop k l) (simp length-drop (omega arith))
+
+-- A conjunction with a test that fails.
+and-false : (a : Bool) → a && false ≡ false
+and-false true = refl
+and-false false = refl
+
+module _ (r : Record) where
+  -- A sheet longer than its array.
+  pub long-sheet : 1024 < r .len → isPadded r ≡ false
+  unfolding isPadded
+  long-sheet h = simp (lt-leb _ _ h)
+
+  -- More replies than their array holds.
+  pub long-replies : 64 < r .count → isPadded r ≡ false
+  unfolding isPadded
+  long-replies h = simp (lt-leb _ _ h, and-false)
+
+  -- A byte past the sheet that isn't 0.
+  pub sheet-unpadded : areZero (drop (r .len) (r .sheet)) ≡ false → isPadded r ≡ false
+  unfolding isPadded
+  sheet-unpadded h = simp (h, and-false)
+
+  -- The first three tests pass: the fourth decides.
+  pub replies-decide : r .len ≤ 1024 → r .count ≤ 64 → areZero (drop (r .len) (r .sheet)) ≡ true → isPadded r ≡ areZero (drop (r .count) (r .replies))
+  unfolding isPadded
+  replies-decide a b z = simp (le-leb _ _ a, le-leb _ _ b, z)
+
+-- The record of each answer.
+for-accepted : (bytes : List ℕ) (sheet : Sheet) → loadedFor bytes (accepted sheet) ≡ record { sheet = padded 1024 bytes; len = length bytes; replies = replicate 64 0; count = 0 }
+unfolding loadedFor
+for-accepted bytes sheet = refl
+
+for-refused : (bytes : List ℕ) (k : ℕ) → loadedFor bytes (refused k) ≡ zeros
+unfolding loadedFor
+for-refused bytes k = refl
+
+module _ (bytes : List ℕ) where
+  -- The record that is loaded is that of the bytes' reading.
+  loaded-for : (x : Answer Sheet) → reading bytes ≡ x → loaded bytes ≡ loadedFor bytes x
+  unfolding loaded
+  loaded-for x e = ap (λ (y : Answer Sheet). loadedFor bytes y) e
+
+  -- Accepted bytes fit into the record.
+  pub accepted-fits : answerOf Said.Accepted ≡ withoutValue (reading bytes) → length bytes ≤ 1024
+  unfolding answerOf
+  accepted-fits e = let a = was-accepted (reading bytes) e in accepted-length bytes (a .0) (a .1)
+
+  -- Of accepted bytes the record is they and zeros behind them, with no replies.
+  pub loaded-accepted : answerOf Said.Accepted ≡ withoutValue (reading bytes)
+      → loaded bytes ≡ record { sheet = padded 1024 bytes; len = length bytes; replies = replicate 64 0; count = 0 }
+  unfolding answerOf
+  loaded-accepted e = let a = was-accepted (reading bytes) e in loaded-for (accepted (a .0)) (a .1) ∙ for-accepted bytes (a .0)
+
+  -- Of refused bytes the record is that of zeros.
+  pub loaded-refused : (r : Refusal) → answerOf (Said.Refused r) ≡ withoutValue (reading bytes) → loaded bytes ≡ zeros
+  unfolding answerOf
+  loaded-refused r e = loaded-for (refused (numberOf r)) (was-refused (reading bytes) (numberOf r) e) ∙ for-refused bytes (numberOf r)

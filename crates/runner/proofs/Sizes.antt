@@ -1,0 +1,18 @@
+-- The lengths of a record's two arrays, from what owning the record tells: `c .good .0` of a function whose first parameter is the record. Assumes nothing.
+use mathlib.Core.List.{List}
+use mathlib.Core.Path.{_≡_, sym, _∙_}
+use lib.ListN.{length, length-map}
+use mir.Val.{Val}
+use denote.Laws.{Is}
+use denote.Struct.Declared.{row}
+use Rattle.runner.specs.declared.kept.Record.{Record}
+use Rattle.runner.proofs.kept.Record.{the-type}
+
+module _ (r : Record) (vs : List Val) (good : Is (row the-type) r vs) where
+  -- The sheet's array.
+  pub sheet-size : length (r .sheet) ≡ 1024
+  sheet-size = sym (length-map (r .sheet) (λ v. v)) ∙ good .1 .1 .0 .1 .0 .1
+
+  -- The array of the replies.
+  pub replies-size : length (r .replies) ≡ 64
+  replies-size = sym (length-map (r .replies) (λ v. v)) ∙ good .1 .1 .1 .1 .0 .1 .0 .1

@@ -1,0 +1,43 @@
+-- `Record::load` meets its contract: the reader's answer decides which record is loaded, and an accepted sheet fits into it. Assumes nothing.
+use mathlib.Core.Path.{_≡_, sym, ap, _∙_}
+use lib.ListN.{length, replicate}
+use denote.Ref.{now}
+use borrow.Author.Needs.{needs}
+use Rattle.reader.specs.declared.sheet.Answer.{Answer}
+use Rattle.reader.specs.Format.{reading}
+use Rattle.reader.specs.Answers.{answerOf, withoutValue}
+use Rattle.runner.proofs.RecordLaws.{accepted-fits, loaded-accepted, loaded-refused}
+use Rattle.runner.proofs.kept.Record.load.Statement.{statement}
+use Rattle.runner.proofs.kept.Record.load.Tie as tie
+
+read-requires : tie.Need-read-requires
+read-requires c κs = search needs
+
+enum-known-answer : tie.Need-enum-known-answer
+enum-known-answer c = search needs
+
+zero-requires : tie.Need-zero-requires
+zero-requires c κs = search needs
+
+enum-told : tie.Need-enum-told
+enum-told c = search needs
+
+-- What the reader said, where it accepts the bytes.
+accepts : (c : tie.After-enum-told) → answerOf Answer.Accepted ≡ withoutValue (reading (now (c .before .before .before .before .args .s)))
+accepts c = sym (ap answerOf (c .enum-told .given .1)) ∙ c .before .before .read .ensures
+
+copied-requires : tie.Need-copied-requires
+copied-requires c κs = accepted-fits _ (accepts c)
+
+returns : tie.Need-returns
+returns c =
+    let refuses = sym (ap answerOf (c .before .before .answer .given .1)) ∙ c .before .before .before .before .read .ensures in
+    (refuses, c .zero .ensures ∙ sym (loaded-refused _ _ refuses))
+
+returns-2 : tie.Need-returns-2
+returns-2 c =
+    let bytes = now (c .before .before .before .before .before .args .s) in
+    (accepts (c .before), sym (loaded-accepted bytes (accepts (c .before)) ∙ λ i. record { sheet = sym (c .copied .ensures) i; len = length bytes; replies = replicate 64 0; count = 0 }))
+
+pub load-spec : {M : Type 1} → statement M
+load-spec = tie.close (tie.spec read-requires enum-known-answer zero-requires enum-told copied-requires returns returns-2)
