@@ -5,6 +5,7 @@ use mathlib.Core.Logic.{_⊎_, inl, inr, ⊎-elim, _↔_}
 use mathlib.Core.List.{List, [], _∷_, _++_, List·Memᴰ, List·Memᴰ·head, List·Memᴰ·not-nil, List·Memᴰ·cases-cons, Memᴰ·append-left, Memᴰ·append-right}
 use mathlib.Core.Bool.{Bool, true}
 use native.Mathlib.Omega.{arith}
+use native.Mathlib.Decide.{decLt}
 use lib.ListN.{length, take, drop, getD}
 use borrow.Author.Tests.{lt-ltb}
 use Rattle.lists.specs.Lists.{if_then_else_}
@@ -17,6 +18,7 @@ use Rattle.reader.specs.Format.{Answer, accepted, refused, reading}
 use Rattle.reader.specs.declared.sheet.Answer.{Answer as Said}
 use Rattle.reader.specs.Answers.{numberOf, answerOf as readOf, withoutValue}
 use Rattle.reader.proofs.AnswerLaws.{same-answer, was-accepted, was-refused}
+use Rattle.reader.proofs.FaultLaws.{refused-number}
 use Rattle.reader.proofs.StateLaws.{state-byte}
 use Rattle.reader.proofs.SheetLaws.{accepted-shape}
 use Rattle.semantics.specs.Runs.{Entry, entry, History, extended, replies, IsRun, lastState, Known, Holds, holdsAfter}
@@ -70,6 +72,14 @@ verified-number bytes budget old enough k e = go (reading bytes) refl
 verified-short : (bytes : List ℕ) (budget : ℕ) (old : List ℕ) → length old < 129 → verified bytes budget old ≡ record { answer = refused 30; memory = old }
 unfolding verified if_then_else_
 verified-short bytes budget old l = rw (lt-ltb (length old) 129 l)
+
+-- And nothing else does: no sheet is refused with it.
+only-short : (bytes : List ℕ) (budget : ℕ) (old : List ℕ) → refused 30 ≡ verified bytes budget old .answer → length old < 129
+only-short bytes budget old e =
+    elim (decLt (length old) 129) [
+      | yes l ↦ l
+      | no g ↦ omega (arith, refused-number bytes 30 (verified-number bytes budget old (omega (arith, g)) 30 e) .1)
+    ]
 
 -- An element of a list stands at a place of it.
 mem-get : {A : Type 0} (d : A) {x : A} (xs : List A) → List·Memᴰ x xs → (k : ℕ) × (k < length xs) × (getD xs k d ≡ x)
@@ -139,10 +149,11 @@ module _ {ℓ} (library : Library {ℓ}) (contracts : Contracts library) where
     check-one = checked-one;
     told-one = told-one;
     reported-one = reported-one;
-    short-first = λ bytes budget old r memory call l.
-        let v = contracts .verify-contract bytes budget old r memory call in
-        let w = verified-short bytes budget old l in
-        (verdict-one r Verdict.ShortMemory (v .0 ∙ ap (λ (x : Verified). x .answer) w), v .1 ∙ ap (λ (x : Verified). x .memory) w);
+    short-exactly = λ bytes budget old r memory call.
+        let v = contracts .verify-contract bytes budget old r memory call .0 in (
+          λ e. only-short bytes budget old (sym (ap verifiedOf e) ∙ v),
+          λ l. verdict-one r Verdict.ShortMemory (v ∙ ap (λ (x : Verified). x .answer) (verified-short bytes budget old l)),
+        );
   }
 
   -- The tables of a sheet, and the set carried along a history.

@@ -143,9 +143,9 @@ module _ {ℓ} (library : Library {ℓ}) where
     pub check-one : (a b : Checked) → checkedOf a ≡ checkedOf b → a ≡ b
     pub told-one : (a b : Told) → toldOf a ≡ toldOf b → a ≡ b
     pub reported-one : (a b : Reported) → reportedOf a ≡ reportedOf b → a ≡ b
-    -- 30 for "trace memory under 129 bytes (before anything else)".
-    pub short-first : (bytes : List ℕ) (budget : ℕ) (old : List ℕ) (r : Verdict) (memory : List ℕ) → library .verifies bytes budget old r memory
-        → length old < 129 → (r ≡ Verdict.ShortMemory) × (memory ≡ old)
+    -- 30 for "trace memory under 129 bytes (before anything else)", and for nothing else.
+    pub short-exactly : (bytes : List ℕ) (budget : ℕ) (old : List ℕ) (r : Verdict) (memory : List ℕ) → library .verifies bytes budget old r memory
+        → (r ≡ Verdict.ShortMemory) ↔ (length old < 129)
 
   -- Demand 2.
   pub record Demand2 : Type ℓ where

@@ -4,6 +4,7 @@ pub mod FormulaLaws
 pub mod SheetLaws
 pub mod Cases
 pub mod AnswerLaws
+pub mod FaultLaws
 pub mod StandingLaws
 pub mod BitLaws
 pub mod ReaderLaws
