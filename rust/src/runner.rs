@@ -9,9 +9,9 @@ use crate::sheet::{Sheet, MAX_ACTION_NODES, MAX_BYTES};
 #[derive(Clone, Debug, PartialEq, Eq)]
 pub struct Record {
     pub sheet: [u8; MAX_BYTES],
-    pub length: u16,
+    pub length: usize,
     pub replies: [u8; MAX_ACTION_NODES],
-    pub count: u8,
+    pub count: usize,
 }
 
 /// What "Next" tells.
@@ -38,7 +38,7 @@ impl Record {
             return (record, Err(refusal));
         }
         record.sheet[..sheet.len()].copy_from_slice(sheet);
-        record.length = sheet.len() as u16;
+        record.length = sheet.len();
         (record, Ok(()))
     }
 
@@ -57,7 +57,7 @@ impl Record {
             .resume(|mut execution| execution.take(reply))
             .and_then(|taken| taken);
         if answer.is_ok() {
-            self.replies[usize::from(self.count)] = reply;
+            self.replies[self.count] = reply;
             self.count += 1;
         }
         (self, answer)
@@ -66,7 +66,7 @@ impl Record {
     /// What `look` says of the execution that the record describes.
     fn resume<T>(&self, look: impl FnOnce(Execution) -> T) -> Result<T, Refusal> {
         let sheet = self.read_sheet().ok_or(Refusal::Record)?;
-        let replies = written(&self.replies, usize::from(self.count)).ok_or(Refusal::Record)?;
+        let replies = written(&self.replies, self.count).ok_or(Refusal::Record)?;
         let mut execution = Execution::new(&sheet);
         for &reply in replies {
             execution.take(reply).map_err(|_| Refusal::Record)?;
@@ -75,7 +75,7 @@ impl Record {
     }
 
     fn read_sheet(&self) -> Option<Sheet> {
-        read(written(&self.sheet, usize::from(self.length))?).ok()
+        read(written(&self.sheet, self.length)?).ok()
     }
 }
 

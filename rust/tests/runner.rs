@@ -24,9 +24,9 @@ fn loaded(bytes: &[u8]) -> Record {
 fn record_of(bytes: &[u8], replies: &[u8]) -> Record {
     let mut record = Record {
         sheet: [0; MAX_BYTES],
-        length: bytes.len() as u16,
+        length: bytes.len(),
         replies: [0; MAX_ACTION_NODES],
-        count: replies.len() as u8,
+        count: replies.len(),
     };
     record.sheet[..bytes.len()].copy_from_slice(bytes);
     record.replies[..replies.len()].copy_from_slice(replies);
@@ -224,9 +224,9 @@ fn zero_record() {
 fn record_with_a_bad_length() {
     let good = record_of(&probing(), &[0]);
     let unused = record_of(&probing(), &[]);
-    for length in (0..9).chain(10..30).chain([1023, 1024, 1025, 32768, 65535]) {
+    let far = [1023, 1024, 1025, 32768, 65535, 65536 + 9, usize::MAX];
+    for length in (0..9).chain(10..30).chain(far) {
         for record in [&good, &unused] {
-            let length = length as u16;
             let record = Record {
                 length,
                 ..record.clone()
@@ -239,7 +239,7 @@ fn record_with_a_bad_length() {
 #[test]
 fn record_with_a_bad_count() {
     let good = record_of(&probing(), &[0]);
-    for count in (2..=66).chain([128, 255]) {
+    for count in (2..=66).chain([128, 255, 256 + 1, 65536 + 1, usize::MAX]) {
         let record = Record {
             count,
             ..good.clone()
@@ -336,17 +336,17 @@ fn damaged_records() {
         let mut record = record_of(&bytes, &random.pick(&listing.runs).replies());
         match random.below(6) {
             0 => record.sheet[random.below(bytes.len() + 1)] ^= 1 << random.below(8),
-            1 => record.length = random.between(0, 2 * bytes.len()) as u16,
-            2 => record.count = random.between(0, 8) as u8,
+            1 => record.length = random.between(0, 2 * bytes.len()),
+            2 => record.count = random.between(0, 8),
             3 => record.replies[random.below(6)] = random.below(4) as u8,
             4 => {
                 record.replies[random.below(6)] = random.below(3) as u8;
-                record.count = random.between(0, 6) as u8;
+                record.count = random.between(0, 6);
             }
             _ => record.replies[random.below(64)] ^= 1 << random.below(8),
         }
-        let (inside, past) = record.sheet.split_at(usize::from(record.length));
-        let (replies, past_replies) = record.replies.split_at(usize::from(record.count));
+        let (inside, past) = record.sheet.split_at(record.length);
+        let (replies, past_replies) = record.replies.split_at(record.count);
         let sheet = read(inside);
         let listing = match &sheet {
             Ok(sheet) => match Listing::new(sheet, 5000) {

@@ -12,13 +12,20 @@ use Rattle.routine.specs.Tables.{startOf, prepared}
 use Rattle.progression.specs.declared.place.Place.{Place}
 use Rattle.progression.specs.Machine.{stepped, settled}
 use Rattle.semantics.specs.Verdict.{Verdict}
-use Rattle.exports.specs.Numbers.{numberFor, startWords, verdictNumbers, verdictMemory}
+use Rattle.semantics.specs.Replies.{Told}
+use Rattle.runner.specs.declared.kept.Record.{Record}
+use Rattle.runner.specs.Records.{reportOn, recordAfter}
+use Rattle.exports.specs.Numbers.{numberFor, startWords, verdictNumbers, verdictMemory, lengthsOf, toldNumbers, toldMemory}
 
 -- An answer has the same number without its sheet.
-pub number-without : {A : Type 0} (a : Answer A) → numberFor (withoutValue a) ≡ numberFor a
+number-without : {A : Type 0} (a : Answer A) → numberFor (withoutValue a) ≡ numberFor a
 unfolding withoutValue numberFor
 number-without (accepted x) = refl
 number-without (refused r) = refl
+
+-- An answer that is another's without the value has its number.
+pub same-number : {A : Type 0} (answer : Answer (Unit {0})) (a : Answer A) → answer ≡ withoutValue a → numberFor answer ≡ numberFor a
+same-number answer a e = ap numberFor e ∙ number-without a
 
 -- A refusal of the tables is that of the sheet, and leaves the memory of the start set as it was.
 pub tables-refused : (a : Answer Sheet) (k : ℕ) → refused k ≡ startOf a → (memory : List ℕ) → (k ≡ numberFor a) × (memory ≡ prepared startWords a memory)
@@ -52,3 +59,26 @@ verdict-numbers a v e old after w = (ap numberFor e, w ∙ ap (λ (b : Answer Ve
 pub verdict-refused : (a : Answer Verdict) (k : ℕ) → refused k ≡ a → (old : List ℕ) → (k ≡ numberFor a) × (old ≡ verdictMemory a old)
 unfolding numberFor verdictMemory
 verdict-refused a k e old = (ap numberFor e, ap (λ (b : Answer Verdict). verdictMemory b old) e)
+
+-- What is told is written by its numbers; a refusal leaves their memory as it was.
+pub told-numbers : (a : Answer Told) (t : Told) → accepted t ≡ a → (old after : List ℕ) → after ≡ toldNumbers t → (0 ≡ numberFor a) × (after ≡ toldMemory a old)
+unfolding numberFor toldMemory
+told-numbers a t e old after w = (ap numberFor e, w ∙ ap (λ (b : Answer Told). toldMemory b old) e)
+
+pub told-refused : (a : Answer Told) (k : ℕ) → refused k ≡ a → (old : List ℕ) → (k ≡ numberFor a) × (old ≡ toldMemory a old)
+unfolding numberFor toldMemory
+told-refused a k e old = (ap numberFor e, ap (λ (b : Answer Told). toldMemory b old) e)
+
+-- The parts of a record that lent memory keeps.
+pub record-parts : (r kept : Record) → r ≡ kept → (r .sheet ≡ kept .sheet) × (r .replies ≡ kept .replies) × (lengthsOf r ≡ lengthsOf kept)
+record-parts r kept e = (ap (λ (x : Record). x .sheet) e, ap (λ (x : Record). x .replies) e, ap lengthsOf e)
+
+-- The number of a report on a record that was lent, and the parts of the record after it.
+pub report-number : (r lent : Record) (reply : ℕ) (a : Answer (Unit {0})) → r ≡ lent → a ≡ withoutValue (reportOn r reply) → numberFor a ≡ numberFor (reportOn lent reply)
+report-number r lent reply a l e = same-number a (reportOn r reply) e ∙ ap (λ (x : Record). numberFor (reportOn x reply)) l
+
+pub report-parts : (r lent kept : Record) (reply : ℕ) → r ≡ lent → kept ≡ recordAfter r reply
+    → (kept .replies ≡ recordAfter lent reply .replies) × (lengthsOf kept ≡ lengthsOf (recordAfter lent reply))
+report-parts r lent kept reply l e =
+    let after = e ∙ ap (λ (x : Record). recordAfter x reply) l in
+    (ap (λ (x : Record). x .replies) after, ap lengthsOf after)

@@ -13,6 +13,9 @@ use routine::NODE_CELLS;
 use routine::Prepared;
 use routine::SET_WORDS;
 use routine::prepare;
+use runner::Record;
+use runner::Reported;
+use runner::Told;
 use states::States;
 use verifier::Verdict;
 use verifier::verify;
@@ -20,26 +23,35 @@ ghost use mathlib.Core.Path.{_≡_};
 ghost use mathlib.Core.List.{[], _∷_};
 ghost use lib.ListN.{length};
 ghost use Rattle.reader.specs.Format.{reading};
+ghost use Rattle.reader.specs.Answers.{answerOf};
 ghost use Rattle.semantics.specs.Verdict.{verified};
 ghost use Rattle.semantics.specs.Checker.{checked};
 ghost use Rattle.semantics.specs.Printing.{printed};
 ghost use Rattle.routine.specs.Memory.{write, words, setAt};
 ghost use Rattle.routine.specs.Tables.{prepared as preparedBy, sheetHeads, nodeCells, setWords};
 ghost use Rattle.progression.specs.Machine.{stepped, settled};
-ghost use Rattle.exports.specs.Numbers.{numberFor, startWords, placeNumber, verdictMemory, checkedNumber};
+ghost use Rattle.runner.specs.Records.{loaded, nextOn, reportOn, recordAfter};
+ghost use Rattle.exports.specs.Numbers.{numberFor, startWords, placeNumber, verdictMemory, checkedNumber, lentRecord, lengthsOf, toldMemory};
 
 // The words of a set of states.
 const WORDS: usize = 4;
+
+// The reader's answer as a number.
+fn answer_number(answer: Answer) -> u8
+    ensures { λ r. ⌜ r ≡ numberFor (answerOf answer) ⌝ }
+{
+    match answer {
+        Answer::Accepted => 0,
+        Answer::Refused(r) => reader::number(r),
+    }
+}
 
 // 0 for a sheet that is accepted, else document 01's number of its refusal.
 #[no_mangle]
 pub extern "C" fn recovery_read(s: &[u8]) -> u8
     ensures { λ r. ⌜ r ≡ numberFor (reading (now (s .entry))) ⌝ }
 {
-    match reader::read(s) {
-        Answer::Accepted => 0,
-        Answer::Refused(r) => reader::number(r),
-    }
+    answer_number(reader::read(s))
 }
 
 // The set whose words a memory holds.
@@ -176,4 +188,96 @@ pub extern "C" fn recovery_print(s: &[u8], out: &mut [u8; LINES]) -> usize
     ensures { λ r. ⌜ (r ≡ length (printed (now (s .entry)))) × (now (out .exit) ≡ write (now (out .entry)) 0 (printed (now (s .entry)))) ⌝ }
 {
     print(s, out)
+}
+
+// The record that lent memory holds.
+fn lent_record(
+    sheet: &[u8; Record::SHEET],
+    replies: &[u8; Record::REPLIES],
+    lengths: &[usize; 2],
+) -> Record
+    ensures { λ r. ⌜ r ≡ lentRecord (now (sheet .entry)) (now (replies .entry)) (now (lengths .entry)) ⌝ }
+{
+    Record {
+        sheet: *sheet,
+        len: lengths[0],
+        replies: *replies,
+        count: lengths[1],
+    }
+}
+
+// Writes the record of a sheet with no replies and gives 0. For a refused sheet it writes the record of zeros and gives
+// the number of the refusal. The lengths are those of the sheet and of the replies.
+#[no_mangle]
+pub extern "C" fn recovery_load(
+    s: &[u8],
+    sheet: &mut [u8; Record::SHEET],
+    replies: &mut [u8; Record::REPLIES],
+    lengths: &mut [usize; 2],
+) -> u8
+    ensures { λ r. ⌜ (r ≡ numberFor (reading (now (s .entry)))) × (now (sheet .exit) ≡ loaded (now (s .entry)) .sheet) × (now (replies .exit) ≡ loaded (now (s .entry)) .replies) × (now (lengths .exit) ≡ lengthsOf (loaded (now (s .entry)))) ⌝ }
+{
+    let after = Record::load(s);
+    let kept = after.kept;
+    let kept_sheet = kept.sheet;
+    let kept_replies = kept.replies;
+    *sheet = kept_sheet;
+    *replies = kept_replies;
+    *lengths = [kept.len, kept.count];
+    let answer = after.answer;
+    answer_number(answer)
+}
+
+// Tells what to do by two numbers and gives 0: 0 and the action, or at the end 1, and 1 if the goal holds, else 0. For a
+// bad record it gives 31, and the two numbers are left as they were.
+#[no_mangle]
+pub extern "C" fn recovery_next(
+    sheet: &[u8; Record::SHEET],
+    replies: &[u8; Record::REPLIES],
+    lengths: &[usize; 2],
+    told: &mut [usize; 2],
+) -> u8
+    ensures { λ r. ⌜ (r ≡ numberFor (nextOn (lentRecord (now (sheet .entry)) (now (replies .entry)) (now (lengths .entry))))) × (now (told .exit) ≡ toldMemory (nextOn (lentRecord (now (sheet .entry)) (now (replies .entry)) (now (lengths .entry)))) (now (told .entry))) ⌝ }
+{
+    let record = lent_record(sheet, replies, lengths);
+    let after = record.next();
+    let answer = after.answer;
+    match answer {
+        Told::BadRecord => 31,
+        Told::Act(action) => {
+            *told = [0, action];
+            0
+        }
+        Told::End(holds) => {
+            if holds {
+                *told = [1, 1];
+            } else {
+                *told = [1, 0];
+            }
+            0
+        }
+    }
+}
+
+// Adds a reply to the record and gives 0, or gives the number of the refusal, 31 to 34, and the record is left as it was.
+#[no_mangle]
+pub extern "C" fn recovery_report(
+    sheet: &[u8; Record::SHEET],
+    replies: &mut [u8; Record::REPLIES],
+    lengths: &mut [usize; 2],
+    reply: u8,
+) -> u8
+    ensures { λ r. ⌜ (r ≡ numberFor (reportOn (lentRecord (now (sheet .entry)) (now (replies .entry)) (now (lengths .entry))) reply)) × (now (replies .exit) ≡ recordAfter (lentRecord (now (sheet .entry)) (now (replies .entry)) (now (lengths .entry))) reply .replies) × (now (lengths .exit) ≡ lengthsOf (recordAfter (lentRecord (now (sheet .entry)) (now (replies .entry)) (now (lengths .entry))) reply)) ⌝ }
+{
+    let record = lent_record(sheet, replies, lengths);
+    let after = record.report(reply);
+    let kept = after.kept;
+    let kept_replies = kept.replies;
+    *replies = kept_replies;
+    *lengths = [kept.len, kept.count];
+    let answer = after.answer;
+    match answer {
+        Reported::Accepted => 0,
+        Reported::Refused(r) => runner::number(r),
+    }
 }

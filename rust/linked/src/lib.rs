@@ -15,6 +15,10 @@ pub const SET_WORDS: usize = 40_960;
 /// The most bytes that the printed lines take.
 pub const LINES: usize = 512;
 
+/// The bytes of a record's sheet, and of its replies.
+pub const SHEET: usize = 1024;
+pub const REPLIES: usize = 64;
+
 /// A set of states as words: state s has weight 2^(s mod 64) in word s div 64.
 pub type Words = [u64; 4];
 
@@ -58,6 +62,28 @@ extern "C" {
         -> u8;
 
     fn recovery_print(bytes: *const u8, length: usize, out: &mut [u8; LINES]) -> usize;
+
+    fn recovery_load(
+        bytes: *const u8,
+        length: usize,
+        sheet: &mut [u8; SHEET],
+        replies: &mut [u8; REPLIES],
+        lengths: &mut [usize; 2],
+    ) -> u8;
+
+    fn recovery_next(
+        sheet: &[u8; SHEET],
+        replies: &[u8; REPLIES],
+        lengths: &[usize; 2],
+        told: &mut [usize; 2],
+    ) -> u8;
+
+    fn recovery_report(
+        sheet: &[u8; SHEET],
+        replies: &mut [u8; REPLIES],
+        lengths: &mut [usize; 2],
+        reply: u8,
+    ) -> u8;
 }
 
 /// The memory that is lent for a sheet's tables.
@@ -81,6 +107,15 @@ pub enum Verdict {
     Valid { count: u32 },
     Invalid { count: u32, length: usize },
     Stopped { budget: u32 },
+}
+
+/// The memory that is lent for a record: a sheet, the replies accepted so far,
+/// and the lengths of both.
+#[derive(Clone, Debug, PartialEq, Eq)]
+pub struct Record {
+    pub sheet: [u8; SHEET],
+    pub replies: [u8; REPLIES],
+    pub lengths: [usize; 2],
 }
 
 impl Tables {
@@ -203,4 +238,40 @@ pub fn check(bytes: &[u8], trace: &[u8]) -> Result<bool, u8> {
 pub fn print(bytes: &[u8], out: &mut [u8; LINES]) -> usize {
     // SAFETY: as above.
     unsafe { recovery_print(bytes.as_ptr(), bytes.len(), out) }
+}
+
+/// Writes the record of a sheet with no replies and gives 0; for a refused sheet
+/// it writes the record of zeros and gives the number of the refusal.
+pub fn load(bytes: &[u8], record: &mut Record) -> u8 {
+    // SAFETY: as above.
+    unsafe {
+        recovery_load(
+            bytes.as_ptr(),
+            bytes.len(),
+            &mut record.sheet,
+            &mut record.replies,
+            &mut record.lengths,
+        )
+    }
+}
+
+/// Writes 0 and the action to do, or 1 and whether the goal holds at the end, 1 or
+/// 0, and gives 0; a bad record gives 31 and leaves `told` as it was.
+pub fn next(record: &Record, told: &mut [usize; 2]) -> u8 {
+    // SAFETY: as above.
+    unsafe { recovery_next(&record.sheet, &record.replies, &record.lengths, told) }
+}
+
+/// Adds the reply and gives 0, or gives the number of the refusal and leaves the
+/// record as it was.
+pub fn report(record: &mut Record, reply: u8) -> u8 {
+    // SAFETY: as above.
+    unsafe {
+        recovery_report(
+            &record.sheet,
+            &mut record.replies,
+            &mut record.lengths,
+            reply,
+        )
+    }
 }

@@ -217,6 +217,24 @@ fn settled(tables: &Tables, set: &Words, at: usize) -> Place {
     }
 }
 
+/// The states possible after replies and where the program then settles, over the
+/// tables of a sheet; nothing if the replies are not those of a run.
+pub fn follow(tables: &Tables, start: &Words, replies: &[u8]) -> Option<(Words, Place)> {
+    let mut set = *start;
+    let mut at = 0;
+    for &reply in replies {
+        let Place::Act { node, action } = settled(tables, &set, at) else {
+            return None;
+        };
+        advance(tables, &mut set, action, reply.into());
+        if set == [0; 4] {
+            return None;
+        }
+        at = node + 1;
+    }
+    Some((set, settled(tables, &set, at)))
+}
+
 /// The verdict over the tables of a sheet and its start set. The least failing
 /// trace is written to the front of `memory`.
 pub fn verify(tables: &Tables, start: &Words, budget: u32, memory: &mut [u8]) -> Verdict {

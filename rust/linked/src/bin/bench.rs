@@ -2,7 +2,7 @@
 //!
 //! Each line gives the least time of a call for each, and the quotients. Run it
 //! in release mode; an argument chooses one of the sections "reading", "tables",
-//! "steps" and "verifying".
+//! "steps", "verifying" and "runner".
 
 use std::hint::black_box;
 use std::time::{Duration, Instant};
@@ -11,6 +11,7 @@ use linked::{plain, Place, Tables, Verdict, Words};
 use recovery::encode::encode;
 use recovery::random::{good, Random, Size};
 use recovery::read::read;
+use recovery::runner::{Record, Told};
 use recovery::sheet::{
     Action, Epistemic, Objective, Program, Sheet, MAX_ACTION_NODES, MAX_BYTES, MAX_TRACE,
 };
@@ -57,6 +58,10 @@ fn main() {
     if wanted("verifying") {
         println!("\nverifying, 8 facts where none are named");
         verify_rows();
+    }
+    if wanted("runner") {
+        println!("\nthe runner at the last action of a run, 8 facts where none are named");
+        runner_rows();
     }
 }
 
@@ -347,6 +352,95 @@ fn time_verifying(bytes: &[u8]) -> (&'static str, Verifying) {
         prepare,
     };
     (word, row)
+}
+
+/// "Next" and "Report" of the proved runner beside two in Rust: `recovery::runner`,
+/// which reads the sheet and steps over its tree (data), and `plain::follow` over
+/// the tables that the proved `prepare` makes in its time.
+fn runner_rows() {
+    println!(
+        "{:<54} {:>7} {:>6} {:>10} {:>10} {:>10} {:>8} {:>9}",
+        "sheet", "replies", "call", "proved us", "data us", "tables us", "to data", "to tables"
+    );
+    let wanted = [
+        "6 changes to 16 states each, 12 probes",
+        "64 probes, the first history fails",
+        "a random routine",
+        "sample 1, 1 fact",
+    ];
+    for (name, sheet) in verified_sheets() {
+        if !wanted.contains(&name) {
+            continue;
+        }
+        let bytes = &encode(&sheet);
+        let (record, reply) = last_action(bytes);
+        let replies = &record.replies[..record.count];
+        let lent = linked::Record {
+            sheet: record.sheet,
+            replies: record.replies,
+            lengths: [record.length, record.count],
+        };
+        let (mut tables, mut start) = (Tables::zeroed(), [0; 4]);
+        let mut follow = || {
+            linked::prepare(black_box(bytes), &mut tables, &mut start);
+            let (mut set, place) = plain::follow(&tables, &start, replies).unwrap();
+            let Place::Act { action, .. } = place else {
+                unreachable!()
+            };
+            plain::step(&tables, &mut set, action, reply.into());
+            (action, set)
+        };
+        let next = || {
+            let mut told = [0; 2];
+            assert_eq!(linked::next(black_box(&lent), &mut told), 0);
+            told
+        };
+        let report = || {
+            let mut after = black_box(&lent).clone();
+            assert_eq!(linked::report(&mut after, reply), 0);
+            after.lengths[1]
+        };
+        let action = follow().0;
+        assert_eq!(next(), [0, action]);
+        assert_eq!(record.clone().next().1, Told::Action(action as u8));
+        assert_eq!(report(), record.clone().report(reply).0.count);
+        let mut least = [f64::INFINITY; 5];
+        for _ in 0..7 {
+            let times = [
+                time(next),
+                time(|| black_box(&record).clone().next().1),
+                time(report),
+                time(|| black_box(&record).clone().report(reply).1),
+                time(&mut follow),
+            ];
+            for (least, time) in least.iter_mut().zip(times) {
+                *least = least.min(time / 1000.0);
+            }
+        }
+        let [next, next_data, report, report_data, tables] = least;
+        for (call, proved, data) in [("next", next, next_data), ("report", report, report_data)] {
+            println!(
+                "{name:<54} {:>7} {call:>6} {proved:>10.2} {data:>10.2} {tables:>10.2} {:>8.4} {:>9.2}",
+                record.count,
+                proved / data,
+                proved / tables
+            );
+        }
+    }
+}
+
+/// The record at the last action of the run by the least replies, and the least reply to it.
+fn last_action(bytes: &[u8]) -> (Record, u8) {
+    let mut record = Record::load(bytes).0;
+    loop {
+        let taken = |&reply: &u8| record.clone().report(reply).1.is_ok();
+        let reply = (0..8).find(taken).unwrap();
+        let after = record.clone().report(reply).0;
+        match after.clone().next().1 {
+            Told::Action(_) => record = after,
+            _ => return (record, reply),
+        }
+    }
 }
 
 /// Nanoseconds of one call, over at least 30 milliseconds; the clock is read

@@ -10,7 +10,7 @@
 
 use std::arch::asm;
 
-use linked::{Tables, Verdict, Words, LINES};
+use linked::{Record, Tables, Verdict, Words, LINES, REPLIES, SHEET};
 use recovery::encode::encode;
 use recovery::read::read;
 use recovery::sheet::{
@@ -45,6 +45,9 @@ fn main() {
     let mut verifying = Need::default();
     let mut checking = Need::default();
     let mut printing = Need::default();
+    let mut loading = Need::default();
+    let mut telling = Need::default();
+    let mut reporting = Need::default();
     let mut refused = 0;
     for (name, sheet) in &sheets {
         let bytes = encode(sheet);
@@ -72,6 +75,27 @@ fn main() {
         assert_eq!(verdict.err().unwrap_or(0), expected, "{name}");
         assert_eq!(checked.err().unwrap_or(0), expected, "{name}");
         assert!(length > 0, "{name}");
+        let mut record = Record {
+            sheet: [0; SHEET],
+            replies: [0; REPLIES],
+            lengths: [0; 2],
+        };
+        let mut answer = 255;
+        loading.add(name, &mut || answer = linked::load(&bytes, &mut record));
+        assert_eq!(answer, expected, "{name}");
+        let mut told = [0; 2];
+        let mut answers = [255; 2];
+        telling.add(name, &mut || answers[0] = linked::next(&record, &mut told));
+        reporting.add(name, &mut || {
+            record.lengths[1] = 0;
+            answers[1] = linked::report(&mut record, 0);
+        });
+        let at_end = told[0] == 1;
+        match (expected, at_end) {
+            (0, false) => assert_eq!(answers, [0, 0], "{name}"),
+            (0, true) => assert_eq!(answers, [0, 32], "{name}"),
+            _ => assert_eq!(answers, [31, 31], "{name}"),
+        }
         if expected != 0 {
             refused += 1;
             continue;
@@ -96,6 +120,9 @@ fn main() {
     verifying.print("recovery_verify");
     checking.print("recovery_check");
     printing.print("recovery_print");
+    loading.print("recovery_load");
+    telling.print("recovery_next");
+    reporting.print("recovery_report");
 }
 
 /// The most stack that a call took, and with which sheet.

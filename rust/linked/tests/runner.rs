@@ -1,0 +1,496 @@
+//! The proved runner against the Rust runner: every answer, and after every call
+//! every byte of the record and both lengths.
+
+mod common;
+
+use std::collections::BTreeMap;
+
+use common::{bytes, choices, longest, many, FEW};
+use linked::{Verdict, REPLIES, SHEET};
+use recovery::edges::edges;
+use recovery::encode::encode;
+use recovery::execute::Execution;
+use recovery::random::{damaged, good, Random, Size};
+use recovery::read::read;
+use recovery::refusal::Refusal;
+use recovery::runner::{Record, Told};
+use recovery::sheet::{Action, Program, Sheet, MAX_TRACE};
+use recovery::step::{gather, keep, start_states};
+
+/// What "Next" leaves where it refuses.
+const BEFORE: [usize; 2] = [usize::MAX, 12_345];
+
+/// How often each answer was given.
+#[derive(Debug, Default)]
+struct Counts {
+    actions: usize,
+    goals_met: usize,
+    goals_missed: usize,
+    next_refused: usize,
+    /// Of reports, by their numbers; 0 is "accepted".
+    reports: BTreeMap<u8, usize>,
+}
+
+impl Counts {
+    fn least(&self) -> usize {
+        let next = [
+            self.actions,
+            self.goals_met,
+            self.goals_missed,
+            self.next_refused,
+        ];
+        let report =
+            [0, 31, 32, 33, 34].map(|number| self.reports.get(&number).copied().unwrap_or(0));
+        next.into_iter().chain(report).min().unwrap()
+    }
+}
+
+/// A record that both runners keep.
+#[derive(Clone)]
+struct Both {
+    proved: linked::Record,
+    rust: Record,
+}
+
+/// The Rust record as memory.
+fn memory(record: &Record) -> linked::Record {
+    linked::Record {
+        sheet: record.sheet,
+        replies: record.replies,
+        lengths: [record.length, record.count],
+    }
+}
+
+impl Both {
+    fn new(record: Record) -> Both {
+        Both {
+            proved: memory(&record),
+            rust: record,
+        }
+    }
+
+    /// Loads a sheet over any memory.
+    fn load(random: &mut Random, sheet: &[u8]) -> (Both, Result<(), Refusal>) {
+        let mut proved = linked::Record {
+            sheet: bytes(random, SHEET).try_into().unwrap(),
+            replies: bytes(random, REPLIES).try_into().unwrap(),
+            lengths: [random.bits() as usize, random.bits() as usize],
+        };
+        let number = linked::load(sheet, &mut proved);
+        let (rust, answer) = Record::load(sheet);
+        assert_eq!(number, number_of(answer), "sheet {sheet:02x?}");
+        let both = Both { proved, rust };
+        both.assert_same("load");
+        (both, answer)
+    }
+
+    #[track_caller]
+    fn assert_same(&self, call: &str) {
+        assert!(
+            self.proved == memory(&self.rust),
+            "{call}: {:02x?}, in Rust {:02x?}",
+            self.proved,
+            self.rust
+        );
+    }
+
+    fn next(&mut self, counts: &mut Counts) -> Told {
+        let before = self.rust.clone();
+        let mut told = BEFORE;
+        let number = linked::next(&self.proved, &mut told);
+        let (rust, answer) = before.clone().next();
+        let expected = match answer {
+            Told::Action(action) => (0, [0, usize::from(action)]),
+            Told::End { goal } => (0, [1, usize::from(goal)]),
+            Told::Refused(refusal) => (refusal.number(), BEFORE),
+        };
+        assert_eq!((number, told), expected, "next: {before:02x?}");
+        assert!(rust == before);
+        self.assert_same("next");
+        *match answer {
+            Told::Action(_) => &mut counts.actions,
+            Told::End { goal: true } => &mut counts.goals_met,
+            Told::End { goal: false } => &mut counts.goals_missed,
+            Told::Refused(refusal) => {
+                assert_eq!(refusal, Refusal::Record);
+                &mut counts.next_refused
+            }
+        } += 1;
+        answer
+    }
+
+    fn report(&mut self, reply: u8, counts: &mut Counts) -> Result<(), Refusal> {
+        let before = self.rust.clone();
+        let number = linked::report(&mut self.proved, reply);
+        let (rust, answer) = before.clone().report(reply);
+        assert_eq!(
+            number,
+            number_of(answer),
+            "report of {reply}: {before:02x?}"
+        );
+        self.rust = rust;
+        self.assert_same("report");
+        assert_eq!(answer.is_err(), self.rust == before);
+        *counts.reports.entry(number).or_insert(0) += 1;
+        answer
+    }
+}
+
+fn number_of(answer: Result<(), Refusal>) -> u8 {
+    answer.map_or_else(Refusal::number, |()| 0)
+}
+
+/// Sheets of all kinds. Most are accepted and have a probe and a branch.
+fn sheets(random: &mut Random) -> Vec<Vec<u8>> {
+    let mut sheets: Vec<Vec<u8>> = longest().into();
+    while sheets.len() < 5000 {
+        let sheet = good(random, &Size::SMALL);
+        if probes_and_branches(&sheet) || random.chance(1, 8) {
+            sheets.push(encode(&sheet));
+        }
+    }
+    sheets.extend(edges().into_iter().step_by(3));
+    sheets.extend((0..600).map(|_| damaged(random, &Size::SMALL)));
+    sheets.extend((0..200).map(|_| few_facts(random, choices)));
+    sheets.extend((0..100).map(|_| few_facts(random, many)));
+    for (count, size) in [(30, Size::MEDIUM), (2, Size::LARGE)] {
+        sheets.extend((0..count).map(|_| encode(&good(random, &size))));
+    }
+    sheets
+}
+
+/// With up to five facts, so that the Rust runner is quick.
+fn few_facts(random: &mut Random, make: fn(&mut Random) -> Sheet) -> Vec<u8> {
+    loop {
+        let sheet = make(random);
+        if sheet.facts <= 5 {
+            return encode(&sheet);
+        }
+    }
+}
+
+fn probes_and_branches(sheet: &Sheet) -> bool {
+    let probe = |program: &Program| match program {
+        Program::Act { action, .. } => {
+            matches!(sheet.actions[usize::from(*action)], Action::Probe(_))
+        }
+        _ => false,
+    };
+    let branch = |program: &Program| matches!(program, Program::Branch { .. });
+    has(&sheet.program, &probe) && has(&sheet.program, &branch)
+}
+
+/// Whether some node of a program is such a one.
+fn has(program: &Program, such: &dyn Fn(&Program) -> bool) -> bool {
+    such(program)
+        || match program {
+            Program::End => false,
+            Program::Act { rest, .. } => has(rest, such),
+            Program::Branch {
+                then,
+                otherwise,
+                rest,
+                ..
+            } => [then, otherwise, rest]
+                .into_iter()
+                .any(|part| has(part, such)),
+        }
+}
+
+/// Whether the reply is false in a state that is possible after the action that
+/// the replies so far come to.
+fn denied(sheet: &Sheet, so_far: &[u8], reply: u8) -> bool {
+    let mut execution = Execution::new(sheet);
+    let mut possible = start_states(sheet);
+    let next = |execution: &Execution| &sheet.actions[usize::from(execution.next().unwrap())];
+    for &reply in so_far {
+        let action = next(&execution);
+        possible = keep(action, reply, &gather(sheet, action, &possible));
+        execution.take(reply).unwrap();
+    }
+    let action = next(&execution);
+    let after = gather(sheet, action, &possible);
+    keep(action, reply, &after) != after
+}
+
+/// A reply that the action may have, or any.
+fn some_reply(random: &mut Random, sheet: Option<&Sheet>, told: Told) -> u8 {
+    let most = match (told, sheet) {
+        (Told::Action(action), Some(sheet)) => sheet.actions[usize::from(action)].reply_count(),
+        _ => 2,
+    };
+    match random.below(16) {
+        0 => random.bits() as u8,
+        1 => most,
+        2 => random.between(0, 9) as u8,
+        _ => random.below(usize::from(most)) as u8,
+    }
+}
+
+#[test]
+fn lists_of_calls() {
+    let mut random = Random::new(61);
+    let mut counts = Counts::default();
+    let (mut lists, mut lively, mut refused, mut denials, mut all_replies) = (0, 0, 0, 0, 0);
+    let (mut longest_sheet, mut longest_list) = (0, 0);
+    for bytes in sheets(&mut random) {
+        let (mut both, answer) = Both::load(&mut random, &bytes);
+        let sheet = read(&bytes).ok();
+        assert_eq!(answer.is_ok(), sheet.is_some());
+        let small = sheet.as_ref().filter(|sheet| sheet.facts <= 5);
+        lists += 1;
+        lively += usize::from(sheet.as_ref().is_some_and(probes_and_branches));
+        refused += usize::from(sheet.is_none());
+        // Some calls, or all up to the end and a few behind it; the first two sheets
+        // are the longest and the one of the longest run.
+        let mut left = match sheet {
+            Some(_) if lists <= 2 => 200,
+            Some(_) => *random.pick(&[3, 10, 100]),
+            None => 3,
+        };
+        let every = random.chance(1, 60);
+        let mut told = both.next(&mut counts);
+        while left > 0 {
+            left -= 1;
+            if every && small.is_some() {
+                for reply in 0..=255 {
+                    both.clone().report(reply, &mut counts).ok();
+                }
+                all_replies += 1;
+            }
+            if random.chance(1, 5) {
+                assert_eq!(both.next(&mut counts), told);
+                continue;
+            }
+            let reply = some_reply(&mut random, sheet.as_ref(), told);
+            let before = both.rust.clone();
+            let accepted = both.report(reply, &mut counts).is_ok();
+            if let (true, Some(sheet)) = (accepted, small) {
+                let so_far = &before.replies[..before.count];
+                denials += usize::from(denied(sheet, so_far, reply));
+            }
+            told = both.next(&mut counts);
+            if !matches!(told, Told::Action(_)) {
+                left = left.min(3);
+            }
+        }
+        longest_sheet = longest_sheet.max(both.rust.length);
+        longest_list = longest_list.max(both.rust.count);
+    }
+    assert!(lists - refused >= 5000, "{lists} lists, {refused} refused");
+    assert!(3 * lively > 2 * lists, "{lively} of {lists}");
+    assert!(refused >= 300, "{refused} refused");
+    assert!(denials >= 1000, "{denials} accepted though denied");
+    assert!(all_replies >= 100, "{all_replies}");
+    assert!(counts.least() >= 500, "{counts:?}");
+    assert_eq!([longest_sheet, longest_list], [SHEET, REPLIES]);
+}
+
+/// A name, whether each record so damaged is refused, and the damage. The record
+/// has a byte past each length.
+type Damage = (&'static str, bool, fn(&mut Random, &mut Record));
+
+const DAMAGES: &[Damage] = &[
+    ("a byte past the sheet", true, |random, record| {
+        let place = random.between(record.length, SHEET - 1);
+        record.sheet[place] = 1 << random.below(8);
+    }),
+    ("the first byte past the sheet", true, |random, record| {
+        record.sheet[record.length] = random.between(1, 255) as u8;
+    }),
+    ("the last byte past the sheet", true, |_, record| {
+        record.sheet[SHEET - 1] = 1;
+    }),
+    ("a byte past the replies", true, |random, record| {
+        let place = random.between(record.count, REPLIES - 1);
+        record.replies[place] = 1 << random.below(8);
+    }),
+    ("the first byte past the replies", true, |random, record| {
+        record.replies[record.count] = random.between(1, 255) as u8;
+    }),
+    ("the last byte past the replies", true, |_, record| {
+        record.replies[REPLIES - 1] = 1;
+    }),
+    ("a bit of the sheet", false, |random, record| {
+        record.sheet[random.below(record.length)] ^= 1 << random.below(8);
+    }),
+    ("a byte of the sheet", false, |random, record| {
+        record.sheet[random.below(record.length)] = random.bits() as u8;
+    }),
+    ("a length of one less", true, |_, record| record.length -= 1),
+    ("a length of one more", true, |_, record| record.length += 1),
+    ("any length", false, |random, record| {
+        record.length = random.between(0, 2 * record.length);
+    }),
+    ("a length of 0", true, |_, record| record.length = 0),
+    ("a length of 1,024", true, |_, record| record.length = SHEET),
+    ("a length of 1,025", true, |_, record| {
+        record.length = SHEET + 1
+    }),
+    ("a length of 70,000", true, |_, record| {
+        record.length = 70_000
+    }),
+    ("a length of 65,536 more", true, |_, record| {
+        record.length += 65_536
+    }),
+    ("the greatest length", true, |_, record| {
+        record.length = usize::MAX
+    }),
+    ("one reply less", false, |_, record| {
+        record.count = record.count.saturating_sub(1)
+    }),
+    ("one reply more", false, |_, record| record.count += 1),
+    ("any count", false, |random, record| {
+        record.count = random.between(0, REPLIES)
+    }),
+    ("a count of 64", true, |_, record| record.count = REPLIES),
+    ("a count of 65", true, |_, record| {
+        record.count = REPLIES + 1
+    }),
+    ("a count of 70,000", true, |_, record| record.count = 70_000),
+    ("a count of 256 more", true, |_, record| record.count += 256),
+    ("the greatest count", true, |_, record| {
+        record.count = usize::MAX
+    }),
+    ("another reply", false, |random, record| {
+        record.replies[random.below(record.count.max(1))] = random.between(0, 3) as u8;
+    }),
+    ("any reply", false, |random, record| {
+        record.replies[random.below(record.count.max(1))] = random.between(0, 15) as u8;
+    }),
+    ("a reply more", false, |random, record| {
+        record.replies[record.count] = random.between(0, 8) as u8;
+        record.count += 1;
+    }),
+    ("64 replies", true, |random, record| {
+        let replies = &mut record.replies[record.count..];
+        replies.fill_with(|| random.below(3) as u8);
+        record.count = REPLIES;
+    }),
+    ("the record of zeros", true, |_, record| {
+        *record = Record::ZERO
+    }),
+    ("zeros with lengths", true, |random, record| {
+        *record = Record::ZERO;
+        record.length = random.between(0, 2);
+        record.count = random.between(0, 2);
+    }),
+    ("any bytes", true, |random, record| {
+        *record = Record {
+            sheet: bytes(random, SHEET).try_into().unwrap(),
+            replies: bytes(random, REPLIES).try_into().unwrap(),
+            ..*record
+        };
+    }),
+];
+
+/// A record of a small sheet with some accepted replies, or all.
+fn some_record(random: &mut Random) -> Record {
+    let sheet = good(random, &Size::SMALL);
+    let mut record = Record::load(&encode(&sheet)).0;
+    let whole = random.chance(1, 2);
+    while let Told::Action(_) = record.clone().next().1 {
+        if !whole && random.chance(1, 4) {
+            break;
+        }
+        record = record.report(random.below(3) as u8).0;
+    }
+    assert!((1..SHEET).contains(&record.length) && record.count < REPLIES);
+    record
+}
+
+#[test]
+fn damaged_records() {
+    let mut random = Random::new(62);
+    let mut counts = Counts::default();
+    let (mut refused, mut taken) = (BTreeMap::new(), BTreeMap::new());
+    for _ in 0..1000 {
+        let record = some_record(&mut random);
+        Both::new(record.clone()).next(&mut Counts::default());
+        for &(name, always, damage) in DAMAGES {
+            let mut bad = record.clone();
+            damage(&mut random, &mut bad);
+            let mut both = Both::new(bad.clone());
+            let told = both.next(&mut counts);
+            let is_refused = told == Told::Refused(Refusal::Record);
+            for reply in [0, random.between(1, 8) as u8, random.bits() as u8] {
+                let mut both = Both::new(bad.clone());
+                let answer = both.report(reply, &mut counts);
+                assert_eq!(answer == Err(Refusal::Record), is_refused, "{name}");
+                both.next(&mut counts);
+            }
+            assert!(is_refused || !always, "{name}: {bad:02x?}");
+            let tally = match is_refused {
+                true => &mut refused,
+                false => &mut taken,
+            };
+            *tally.entry(name).or_insert(0) += 1;
+        }
+    }
+    for (name, always, _) in DAMAGES {
+        assert!(refused[name] >= 20, "{name}: {refused:?}");
+        assert!(*always || taken[name] >= 20, "{name}: {taken:?}");
+    }
+    assert!(counts.least() >= 50, "{counts:?}");
+}
+
+/// Visits the lists of accepted replies, in order, up to the first after which the
+/// goal fails, and counts them; gives the length of that one.
+fn failing(both: &mut Both, calls: &mut Counts, count: &mut u32) -> Option<usize> {
+    match both.next(calls) {
+        Told::End { goal: true } => None,
+        Told::End { goal: false } => Some(both.proved.lengths[1]),
+        Told::Action(_) => (0..=8).find_map(|reply| {
+            let mut after = both.clone();
+            after.report(reply, calls).ok()?;
+            *count += 1;
+            failing(&mut after, calls, count)
+        }),
+        Told::Refused(refusal) => panic!("{refusal:?}"),
+    }
+}
+
+#[test]
+fn full_runs_end_as_the_verdict_says() {
+    let mut random = Random::new(63);
+    let mut calls = Counts::default();
+    let (mut valid, mut invalid, mut most) = (0, 0, 0);
+    while valid + invalid < 3000 {
+        let bytes = match random.below(20) {
+            0 => few_facts(&mut random, choices),
+            _ => encode(&good(&mut random, &Size::SMALL)),
+        };
+        let verdict = linked::verify(&bytes, FEW, &mut [0; MAX_TRACE]).unwrap();
+        if let Verdict::Stopped { .. } = verdict {
+            continue;
+        }
+        let (mut both, _) = Both::load(&mut random, &bytes);
+        let mut count = 0;
+        let expected = match failing(&mut both, &mut calls, &mut count) {
+            None => Verdict::Valid { count },
+            Some(length) => Verdict::Invalid { count, length },
+        };
+        assert_eq!(verdict, expected, "sheet {bytes:02x?}");
+        match verdict {
+            Verdict::Valid { .. } => valid += 1,
+            _ => invalid += 1,
+        }
+        most = most.max(count);
+    }
+    assert!(valid >= 1000 && invalid >= 1000, "{valid} {invalid}");
+    assert!(most >= 100, "{most}");
+    assert!(calls.goals_met >= 2000 && calls.goals_missed >= 1000);
+    assert!(calls.reports[&33] >= 1000 && calls.reports[&34] >= 1000);
+}
+
+#[test]
+fn the_record_of_zeros() {
+    let mut both = Both::new(Record::ZERO);
+    let mut counts = Counts::default();
+    assert_eq!(both.next(&mut counts), Told::Refused(Refusal::Record));
+    for reply in 0..=255 {
+        let answer = both.report(reply, &mut counts);
+        assert_eq!(answer, Err(Refusal::Record));
+        assert!(both.rust == Record::ZERO);
+    }
+}
