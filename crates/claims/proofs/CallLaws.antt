@@ -7,10 +7,10 @@ use mathlib.Core.List.{List, [], _∷_, _++_, map, append-nil, append-assoc, hea
 use mathlib.Core.Bool.{Bool, true, false}
 use native.Mathlib.Omega.{arith}
 use Rattle.reader.specs.Syntax.{Sheet}
-use Rattle.reader.specs.Format.{accepted, refused, reading}
+use Rattle.reader.specs.Format.{accepted, reading}
 use Rattle.reader.specs.Answers.{withoutValue}
 use Rattle.reader.proofs.AnswerLaws.{was-accepted, was-refused}
-use Rattle.semantics.specs.Runs.{Entry, History, replies, holdsAfter, Holds}
+use Rattle.semantics.specs.Runs.{Entry, History, replies, holdsAfter}
 use Rattle.semantics.specs.Routine.{Following, Full, Failing}
 use Rattle.semantics.specs.Replies.{Told as Telling, to-do, at-end, told, reported as added, AcceptedBehind, AcceptedReplies, RepliesOfRun}
 use Rattle.semantics.proofs.RunLaws.{tested-holds, holds-tested}
@@ -23,7 +23,7 @@ use Rattle.runner.specs.declared.kept.Record.{Record}
 use Rattle.runner.specs.declared.kept.AfterLoad.{AfterLoad}
 use Rattle.runner.specs.declared.kept.AfterNext.{AfterNext}
 use Rattle.runner.specs.declared.kept.AfterReport.{AfterReport}
-use Rattle.runner.specs.Records.{recordOf, nextOn, reportOn, recordAfter}
+use Rattle.runner.specs.Records.{recordOf}
 use Rattle.runner.specs.Answers.{rejectionNumber, toldOf, reportedOf}
 use Rattle.runner.proofs.CallLaws.{reported-adds}
 use Rattle.runner.proofs.HeldLaws.{loaded-record, next-held, report-held, after-added, after-refused}
@@ -38,30 +38,30 @@ ListsRun library = (bytes : List ℕ) (l : AfterLoad) → library .loads bytes l
     → ∥ ((es : List Event) × (q : Record) × Calls (library .tells) (library .reports) (l .kept) es q × (map callOf es ≡ cs)) ∥₁
 
 -- It is so where every call ends on a record that can be passed, with a record that can be.
-pub record Going {ℓ} (library : Library {ℓ}) (holds : Record → Type ℓ) : Type ℓ where
-  pub load-holds : (bytes : List ℕ) (l : AfterLoad) → library .loads bytes l → ∥ holds (l .kept) ∥₁
-  pub next-goes : (r : Record) → holds r → ∥ ((t : AfterNext) × library .tells r t) ∥₁
-  pub next-holds : (r : Record) (t : AfterNext) → library .tells r t → ∥ holds (t .kept) ∥₁
-  pub report-goes : (r : Record) (x : ℕ) → x < 256 → holds r → ∥ ((t : AfterReport) × library .reports r x t) ∥₁
-  pub report-holds : (r : Record) (x : ℕ) (t : AfterReport) → library .reports r x t → ∥ holds (t .kept) ∥₁
+pub record Going {ℓ} (library : Library {ℓ}) (CanPass : Record → Type ℓ) : Type ℓ where
+  pub load-passes : (bytes : List ℕ) (l : AfterLoad) → library .loads bytes l → ∥ CanPass (l .kept) ∥₁
+  pub next-goes : (r : Record) → CanPass r → ∥ ((t : AfterNext) × library .tells r t) ∥₁
+  pub next-passes : (r : Record) (t : AfterNext) → library .tells r t → ∥ CanPass (t .kept) ∥₁
+  pub report-goes : (r : Record) (x : ℕ) → x < 256 → CanPass r → ∥ ((t : AfterReport) × library .reports r x t) ∥₁
+  pub report-passes : (r : Record) (x : ℕ) (t : AfterReport) → library .reports r x t → ∥ CanPass (t .kept) ∥₁
 
-module _ {ℓ} (library : Library {ℓ}) (holds : Record → Type ℓ) (going : Going library holds) where
-  calls-run : (cs : List Call) → Bytes cs → (r : Record) → holds r → ∥ ((es : List Event) × (q : Record) × Calls (library .tells) (library .reports) r es q × (map callOf es ≡ cs)) ∥₁
+module _ {ℓ} (library : Library {ℓ}) (CanPass : Record → Type ℓ) (going : Going library CanPass) where
+  calls-run : (cs : List Call) → Bytes cs → (r : Record) → CanPass r → ∥ ((es : List Event) × (q : Record) × Calls (library .tells) (library .reports) r es q × (map callOf es ≡ cs)) ∥₁
   unfolding Bytes callOf
   calls-run [] b r h = ∣ ([], r, none, refl) ∣₁
   calls-run (Call.next ∷ cs) b r h =
       ∥∥₁-elim (going .next-goes r h) ∥∥₁-prop (λ c.
-      ∥∥₁-elim (going .next-holds r (c .0) (c .1)) ∥∥₁-prop (λ k.
+      ∥∥₁-elim (going .next-passes r (c .0) (c .1)) ∥∥₁-prop (λ k.
       ∥∥₁-map (calls-run cs b (c .0 .kept) k) (λ w.
       (asked (c .0 .answer) ∷ w .0, w .1, then-next (c .0) (c .1) (w .2), ap (λ (l : List Call). Call.next ∷ l) (w .3)))))
   calls-run (Call.report x ∷ cs) b r h =
       ∥∥₁-elim (going .report-goes r x (b .0) h) ∥∥₁-prop (λ c.
-      ∥∥₁-elim (going .report-holds r x (c .0) (c .1)) ∥∥₁-prop (λ k.
+      ∥∥₁-elim (going .report-passes r x (c .0) (c .1)) ∥∥₁-prop (λ k.
       ∥∥₁-map (calls-run cs (b .1) (c .0 .kept) k) (λ w.
       (reported x (c .0 .answer) ∷ w .0, w .1, then-report x (c .0) (c .1) (w .2), ap (λ (l : List Call). Call.report x ∷ l) (w .3)))))
 
   pub lists-run : ListsRun library
-  lists-run bytes l load cs b = ∥∥₁-elim (going .load-holds bytes l load) ∥∥₁-prop (λ h. calls-run cs b (l .kept) h)
+  lists-run bytes l load cs b = ∥∥₁-elim (going .load-passes bytes l load) ∥∥₁-prop (λ h. calls-run cs b (l .kept) h)
 
 -- Reports of some replies, and then "Next".
 unfoldable reportsOf : List ℕ → List Call

@@ -39,14 +39,13 @@ use Rattle.routine.specs.Memory.{setAt}
 use Rattle.routine.specs.Tables.{sheetStart, sheetHeads, nodeCells, setWords, preparedOf, startOf, prepared, atomSets, programSets, sheetActionSets, sheetSets}
 use Rattle.routine.proofs.TableLaws.{noStates, Tabled, prepared-tabled, ready-sheet, refused-sheet}
 use Rattle.progression.specs.declared.place.Place.{Place}
-use Rattle.progression.specs.Machine.{knownBy, settled, stepped}
+use Rattle.progression.specs.Machine.{settled, stepped}
 use Rattle.progression.proofs.StepLaws.{tabled-step, members-possible, member-states}
 use Rattle.progression.proofs.RoutineLaws.{after-more, known-after, Reached, AtAction, AtEnd, start-reached, reached-place}
 use Rattle.verifier.specs.declared.verdict.Verdict.{Verdict}
 use Rattle.verifier.specs.Answers.{answerOf as verifiedOf}
 use Rattle.checker.specs.declared.Checked.{Checked}
 use Rattle.checker.specs.Shown.{answerOf as checkedOf}
-use Rattle.runner.specs.declared.answer.Reported.{Reported}
 use Rattle.runner.specs.Records.{reportOn, recordAfter}
 use Rattle.runner.specs.Answers.{rejectionNumber, reportedOf}
 use Rattle.runner.proofs.CallLaws.{refused-unchanged}

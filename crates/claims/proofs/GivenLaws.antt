@@ -1,6 +1,6 @@
 -- Every record and every reply has an answer that the contracts of "Next" and "Report" allow. Assumes nothing.
 use Prim.Native.Nat.{ℕ}
-use mathlib.Core.Path.{_≡_, refl, sym, ap, _∙_}
+use mathlib.Core.Path.{_≡_, refl, sym, ap}
 use mathlib.Core.List.{List, [], _∷_, _++_}
 use mathlib.Core.Bool.{Bool, true, false}
 use native.Mathlib.Omega.{arith}
@@ -17,7 +17,7 @@ use Rattle.runner.specs.declared.answer.Told.{Told}
 use Rattle.runner.specs.declared.answer.Reported.{Reported}
 use Rattle.runner.specs.declared.kept.Record.{Record}
 use Rattle.runner.specs.Records.{heldSheet, heldReplies, isPadded, resumed, heldBy, nextOf, nextOn, reportOf, reportOn}
-use Rattle.runner.specs.Answers.{rejectionNumber, toldOf, reportedOf}
+use Rattle.runner.specs.Answers.{toldOf, reportedOf}
 
 -- A record is refused with 31 alone.
 resumed-refused : (a : Answer Sheet) (rs : List ℕ) (k : ℕ) → resumed a rs ≡ refused k → k ≡ 31

@@ -5,8 +5,11 @@ pub mod GivenLaws
 pub mod DemandLaws
 pub mod Promises
 pub mod Machine
+pub mod Memory
 pub mod Lowered
 pub mod SetLaws
 pub mod Runs
 pub mod RunnerRuns
 pub mod Demands
+pub mod MemoryRuns
+pub mod StartRuns

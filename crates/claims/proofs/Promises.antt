@@ -140,11 +140,11 @@ contracts = record {
 -- By the contracts there is always an answer to "Next" and "Report".
 going : Going promised (λ (r : Record). Unit {0})
 going = record {
-  load-holds = λ bytes l c. ∣ tt ∣₁;
+  load-passes = λ bytes l c. ∣ tt ∣₁;
   next-goes = λ r h. let a = next-given r in ∣ (record { answer = a .0; kept = r }, ((tt, tt), (a .1, refl))) ∣₁;
-  next-holds = λ r t c. ∣ tt ∣₁;
+  next-passes = λ r t c. ∣ tt ∣₁;
   report-goes = λ r x b h. let a = report-given r x in ∣ (record { answer = a .0; kept = recordAfter r x }, ((tt, (tt, tt)), (a .1, refl))) ∣₁;
-  report-holds = λ r x t c. ∣ tt ∣₁;
+  report-passes = λ r x t c. ∣ tt ∣₁;
 }
 
 -- The demands hold of them. (That calls end is not in a contract: proofs/Demands.antt.)

@@ -20,7 +20,7 @@ use denote.Plain.{uint-makes}
 use denote.Ref.{now}
 use denote.Triple.Bound.{Bound}
 use denote.Triple.Clauses.{Lasts, atExit}
-use denote.Triple.Spec.{Spec, tripleOf}
+use denote.Triple.Spec.{Spec}
 use Rattle.reader.specs.Format.{reading}
 use Rattle.reader.specs.Answers.{answerOf as readOf, withoutValue}
 use Rattle.runner.specs.declared.kept.Record.{Record}
@@ -31,9 +31,6 @@ use Rattle.runner.specs.Records.{loaded, nextOn, reportOn, recordAfter}
 use Rattle.runner.specs.Answers.{toldOf, reportedOf}
 use Rattle.runner.proofs.kept.Record as record-type
 use Rattle.runner.proofs.kept.Record.Laws as record-laws
-use Rattle.runner.proofs.kept.AfterLoad as after-load-type
-use Rattle.runner.proofs.kept.AfterNext as after-next-type
-use Rattle.runner.proofs.kept.AfterReport as after-report-type
 use Rattle.runner.proofs.kept.Record.load as load
 use Rattle.runner.proofs.kept.Record.load.Reads as load-reads
 use Rattle.runner.proofs.kept.Record.load.Met as load-met
@@ -59,8 +56,8 @@ module _ {M : Type 1} (𝓤 : URA M) (H : Heap 𝓤) (𝓜 : Model 𝓤 H) (𝓖
   abbrev Legal : Record → Type 0
   Legal r = Is record-type.the-row r (record-laws.lowered r ∷ [])
 
-  abbrev pub Holds : Record → Type 1
-  Holds r = (σ : Memory) × Satisfies 𝓤 H 𝓜 σ (emp 𝓤) × Legal r
+  abbrev pub CanPass : Record → Type 1
+  CanPass r = (σ : Memory) × Satisfies 𝓤 H 𝓜 σ (emp 𝓤) × Legal r
 
   -- Any memory that satisfies something will do.
   any-memory : (σ : Memory) (P : SProp 𝓤) → Satisfies 𝓤 H 𝓜 σ P → Satisfies 𝓤 H 𝓜 σ (emp 𝓤)
@@ -105,8 +102,8 @@ module _ {M : Type 1} (𝓤 : URA M) (H : Heap 𝓤) (𝓜 : Model 𝓤 H) (𝓖
   pub load-ends : (bytes : List ℕ) → CanLoad bytes → ∥ ((l : AfterLoad) × LoadRan bytes l) ∥₁
   load-ends bytes c = ∥∥₁-map (load-does (c .0) .0 (c .2)) (λ t. (t .0, (c .0, c .1, t .1)))
 
-  pub load-holds : (bytes : List ℕ) (l : AfterLoad) → LoadRan bytes l → Holds (l .kept)
-  load-holds bytes l c = (c .2 .0, any-memory (c .2 .0) _ (c .2 .3), legal-record (l .kept) _ (c .2 .5 .1 .1 .1 .0))
+  pub load-passes : (bytes : List ℕ) (l : AfterLoad) → LoadRan bytes l → CanPass (l .kept)
+  load-passes bytes l c = (c .2 .0, any-memory (c .2 .0) _ (c .2 .3), legal-record (l .kept) _ (c .2 .5 .1 .1 .1 .0))
 
   -- `next` on a record.
   abbrev next-spec : Spec 𝓤 next.signature
@@ -135,7 +132,7 @@ module _ {M : Type 1} (𝓤 : URA M) (H : Heap 𝓤) (𝓜 : Model 𝓤 H) (𝓖
   next-bound : Record → Bound 𝓤 H (𝓖 .A) next.signature
   next-bound r = (tt, tt, tt, (r, tt), ((record-laws.lowered r ∷ []), tt))
 
-  pub next-ends : (r : Record) → Holds r → ∥ ((t : AfterNext) × NextRan r t) ∥₁
+  pub next-ends : (r : Record) → CanPass r → ∥ ((t : AfterNext) × NextRan r t) ∥₁
   unfolding next-bound
   next-ends r h =
       let can : Callable 𝓤 H 𝓜 𝓖 next.signature next-spec (next-bound r) tt = (
@@ -148,8 +145,8 @@ module _ {M : Type 1} (𝓤 : URA M) (H : Heap 𝓤) (𝓜 : Model 𝓤 H) (𝓖
       ) in
       ∥∥₁-map (next-does (next-bound r) .0 can) (λ t. (t .0, (next-bound r, refl, t .1)))
 
-  pub next-holds : (r : Record) (t : AfterNext) → NextRan r t → Holds (t .kept)
-  next-holds r t c = (c .2 .0, any-memory (c .2 .0) _ (c .2 .3), legal-record (t .kept) _ (c .2 .5 .1 .1 .1 .0))
+  pub next-passes : (r : Record) (t : AfterNext) → NextRan r t → CanPass (t .kept)
+  next-passes r t c = (c .2 .0, any-memory (c .2 .0) _ (c .2 .3), legal-record (t .kept) _ (c .2 .5 .1 .1 .1 .0))
 
   -- `report` on a record and a byte.
   abbrev report-spec : Spec 𝓤 report.signature
@@ -178,7 +175,7 @@ module _ {M : Type 1} (𝓤 : URA M) (H : Heap 𝓤) (𝓜 : Model 𝓤 H) (𝓖
   report-bound : Record → ℕ → Bound 𝓤 H (𝓖 .A) report.signature
   report-bound r y = (tt, tt, tt, (r, (y, tt)), ((record-laws.lowered r ∷ []), ((vint w8 y ∷ []), tt)))
 
-  pub report-ends : (r : Record) (y : ℕ) → y < 256 → Holds r → ∥ ((t : AfterReport) × ReportRan r y t) ∥₁
+  pub report-ends : (r : Record) (y : ℕ) → y < 256 → CanPass r → ∥ ((t : AfterReport) × ReportRan r y t) ∥₁
   unfolding report-bound
   report-ends r y b h =
       let can : Callable 𝓤 H 𝓜 𝓖 report.signature report-spec (report-bound r y) tt = (
@@ -192,5 +189,5 @@ module _ {M : Type 1} (𝓤 : URA M) (H : Heap 𝓤) (𝓜 : Model 𝓤 H) (𝓖
       ) in
       ∥∥₁-map (report-does (report-bound r y) .0 can) (λ t. (t .0, (report-bound r y, refl, refl, t .1)))
 
-  pub report-holds : (r : Record) (y : ℕ) (t : AfterReport) → ReportRan r y t → Holds (t .kept)
-  report-holds r y t c = (c .3 .0, any-memory (c .3 .0) _ (c .3 .3), legal-record (t .kept) _ (c .3 .5 .1 .1 .1 .0))
+  pub report-passes : (r : Record) (y : ℕ) (t : AfterReport) → ReportRan r y t → CanPass (t .kept)
+  report-passes r y t c = (c .3 .0, any-memory (c .3 .0) _ (c .3 .3), legal-record (t .kept) _ (c .3 .5 .1 .1 .1 .0))

@@ -64,7 +64,7 @@ pub record Library {ℓ} : Type (ℓ + 1) where
   pub tells : Record → AfterNext → Type ℓ
   pub reports : Record → (reply : ℕ) → AfterReport → Type ℓ
 
--- The values with which each function can be called: of lent memory, what it holds; of a record, `holds`. (A reply is a byte.)
+-- The values with which each function can be called: of lent memory, what it holds; of a record, `can-pass`. (A reply is a byte.)
 pub record Callable {ℓ} : Type (ℓ + 1) where
   pub can-read : (bytes : List ℕ) → Type ℓ
   pub can-prepare : (bytes heads nodes sets : List ℕ) → Type ℓ
@@ -74,7 +74,7 @@ pub record Callable {ℓ} : Type (ℓ + 1) where
   pub can-verify : (bytes : List ℕ) (budget : ℕ) (old : List ℕ) → Type ℓ
   pub can-check : (bytes shown : List ℕ) → Type ℓ
   pub can-load : (bytes : List ℕ) → Type ℓ
-  pub holds : Record → Type ℓ
+  pub can-pass : Record → Type ℓ
 
 module _ {ℓ} (library : Library {ℓ}) where
   -- The tables of a sheet, made in memory of the right size: so many heads of three numbers, nodes of four and sets of four words.
@@ -112,8 +112,8 @@ module _ {ℓ} (library : Library {ℓ}) where
         → ∥ ((r : Verdict) × (memory : List ℕ) × library .verifies bytes budget old r memory) ∥₁
     pub check-ends : (bytes shown : List ℕ) → callable .can-check bytes shown → ∥ ((a : Checked) × library .checks bytes shown a) ∥₁
     pub load-ends : (bytes : List ℕ) → callable .can-load bytes → ∥ ((l : AfterLoad) × library .loads bytes l) ∥₁
-    pub next-ends : (r : Record) → callable .holds r → ∥ ((t : AfterNext) × library .tells r t) ∥₁
-    pub report-ends : (r : Record) (x : ℕ) → x < 256 → callable .holds r → ∥ ((t : AfterReport) × library .reports r x t) ∥₁
+    pub next-ends : (r : Record) → callable .can-pass r → ∥ ((t : AfterNext) × library .tells r t) ∥₁
+    pub report-ends : (r : Record) (x : ℕ) → x < 256 → callable .can-pass r → ∥ ((t : AfterReport) × library .reports r x t) ∥₁
     -- And every list of calls can be made on a record that loading returned: each returns a record with which the next can be called.
     pub lists-run : (bytes : List ℕ) (l : AfterLoad) → library .loads bytes l → (cs : List Call) → Bytes cs
         → ∥ ((es : List Event) × (q : Record) × Calls (library .tells) (library .reports) (l .kept) es q × (map callOf es ≡ cs)) ∥₁

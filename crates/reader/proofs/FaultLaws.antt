@@ -7,9 +7,9 @@ use native.Mathlib.Omega.{arith}
 use lib.Dec.{leb, ltb, eqb}
 use lib.ListN.{length}
 use Rattle.lists.specs.Lists.{if_then_else_}
-use Rattle.reader.specs.Syntax.{Objective, bottom, top, fact, new-fact, negation, conjunction, disjunction, equivalence, Epistemic, known, not-known, all-of, any-of, end, act, branch, Action, change, probe, Sheet}
+use Rattle.reader.specs.Syntax.{Objective, bottom, top, fact, new-fact, negation, conjunction, disjunction, equivalence, known, not-known, all-of, any-of, end, act, branch, Action, change, probe, Sheet}
 use Rattle.reader.specs.Bits.{bitsAt}
-use Rattle.reader.specs.Format.{Answer, accepted, refused, Read, got, fault, Reader, andThen, _>>=_, give, refuse, check, field, factNumber, objectiveBehind, objective, epistemicBehind, epistemic, objectives, actionBehind, action, actionList, ProgramRead, programBehind, programWithin, isEdition, sheetFields, isPadding, hasStart, leadsOn, hasReply, unless, faults, decided, afterFields, reading}
+use Rattle.reader.specs.Format.{Answer, refused, Read, got, fault, Reader, andThen, _>>=_, give, refuse, check, field, factNumber, objectiveBehind, objective, epistemicBehind, epistemic, objectives, actionBehind, action, actionList, ProgramRead, programBehind, programWithin, isEdition, sheetFields, isPadding, hasStart, leadsOn, hasReply, unless, faults, decided, afterFields, reading}
 use Rattle.reader.proofs.SheetLaws.{fieldsWith}
 
 -- One of the numbers.

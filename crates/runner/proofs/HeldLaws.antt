@@ -1,10 +1,8 @@
 -- The record that belongs to a sheet and to replies of a run: what it holds, and what "Next" and "Report" make of it. Assumes nothing.
 use Prim.Native.Nat.{ℕ, zero, suc, _-_, _≤_}
-use mathlib.Core.Path.{_≡_, refl, sym, ap, _∙_}
-use mathlib.Core.List.{List, [], _∷_, _++_}
+use mathlib.Core.Path.{_≡_, refl, ap, _∙_}
+use mathlib.Core.List.{List, []}
 use mathlib.Core.Bool.{Bool, true, _&&_}
-use native.Mathlib.Omega.{arith}
-use lib.Dec.{leb}
 use lib.ListN.{length, replicate, take, drop}
 use lib.Seq.{take-append-seam, drop-append-seam}
 use borrow.Author.Tests.{le-leb}
@@ -12,10 +10,9 @@ use Rattle.lists.specs.Lists.{if_then_else_, every}
 use Rattle.reader.specs.Syntax.{Sheet}
 use Rattle.reader.specs.Format.{Answer, accepted, refused, reading}
 use Rattle.reader.proofs.SheetLaws.{accepted-length}
-use Rattle.semantics.specs.Replies.{told, reported, areOfRun, RepliesOfRun}
+use Rattle.semantics.specs.Replies.{told, reported, RepliesOfRun}
 use Rattle.semantics.proofs.ReplyLaws.{run-of}
 use Rattle.semantics.proofs.AcceptedLaws.{replies-most}
-use Rattle.runner.specs.declared.kept.Record.{Record}
 use Rattle.runner.specs.Records.{padded, areZero, recordOf, loaded, loadedFor, heldSheet, heldReplies, isPadded, resumed, heldBy, nextOf, nextOn, reportOf, reportOn, recordWith, recordAfter}
 use Rattle.runner.proofs.CallLaws.{held-padded}
 

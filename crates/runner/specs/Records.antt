@@ -1,13 +1,15 @@
 -- The record, and what loading, "Next" and "Report" make of it. Document 01, "The runner" and "From the memory and the record".
 use Prim.Native.Nat.{ℕ, _-_}
-use mathlib.Core.List.{List, [], _++_}
-use mathlib.Core.Bool.{Bool, _&&_}
+use mathlib.Core.List.{List, [], _∷_, _++_}
+use mathlib.Core.Path.{_≡_, refl}
+use mathlib.Core.Bool.{Bool, true, false, _&&_}
 use lib.Dec.{leb, eqb}
 use lib.ListN.{length, replicate, take, drop}
 use Rattle.lists.specs.Lists.{if_then_else_, every}
 use Rattle.reader.specs.Syntax.{Sheet}
 use Rattle.reader.specs.Format.{Answer, accepted, refused, reading}
-use Rattle.semantics.specs.Replies.{Told, told, reported, areOfRun}
+use Rattle.semantics.specs.Replies.{Told, to-do, at-end, told, reported, areOfRun}
+use Rattle.semantics.specs.Cases.{sheet1, sheet2}
 use Rattle.runner.specs.declared.kept.Record.{Record}
 
 -- "Bytes past the lengths are 0": bytes, and zeros behind them up to a length.
@@ -87,3 +89,84 @@ recordWith r (refused k) = r
 unfoldable pub recordAfter : Record → (reply : ℕ) → Record
 unfolding recordWith reportOn
 recordAfter r reply = recordWith r (reportOn r reply)
+
+-- Examples, evaluated. The sheets of cases 1 and 2 of document 01: one fact, of which nothing is known, and action 0, which asks for it (reply 0: it is true; 1: it is
+-- false) and is the whole routine. In case 1 the goal is that one knows whether the fact is true, in case 2 that one knows that it is. `twice` is case 2 with the action done twice.
+abbrev twice : List ℕ
+twice = 0x11 ∷ 0x0C ∷ 0x90 ∷ 0x88 ∷ 0x11 ∷ 0x04 ∷ 0x08 ∷ 0x00 ∷ []
+
+-- No byte is no sheet: loading gives the record of zeros, which "Next" refuses.
+nothing-loaded : loaded [] ≡ zeros
+unfolding loaded
+nothing-loaded = refl
+
+zeros-refused : nextOn zeros ≡ refused 31
+unfolding nextOn zeros
+zeros-refused = refl
+
+-- Case 1: loading gives no replies; action 0 is told.
+loaded-empty : loaded sheet1 .count ≡ 0
+unfolding loaded
+loaded-empty = refl
+
+first-told : nextOn (loaded sheet1) ≡ accepted (to-do 0)
+unfolding nextOn loaded
+first-told = refl
+
+-- Reply 0 is true in one of the two states still possible, and is accepted; with it the routine is at its end, and the goal holds.
+one-state-enough : reportOn (loaded sheet1) 0 ≡ accepted (0 ∷ [])
+unfolding reportOn loaded
+one-state-enough = refl
+
+goal-told : nextOn (recordAfter (loaded sheet1) 0) ≡ accepted (at-end true)
+unfolding nextOn recordAfter loaded
+goal-told = refl
+
+-- Case 2: with reply 1 the goal fails.
+failure-told : nextOn (recordAfter (loaded sheet2) 1) ≡ accepted (at-end false)
+unfolding nextOn recordAfter loaded
+failure-told = refl
+
+-- No third reply; no reply past the end; the second answer to the same question can't be the other one.
+no-third-reply : reportOn (loaded sheet1) 2 ≡ refused 33
+unfolding reportOn loaded
+no-third-reply = refl
+
+nothing-past-the-end : reportOn (recordOf sheet1 (0 ∷ [])) 0 ≡ refused 32
+unfolding reportOn recordOf
+nothing-past-the-end = refl
+
+other-answer : reportOn (recordOf twice (0 ∷ [])) 1 ≡ refused 34
+unfolding reportOn recordOf
+other-answer = refl
+
+same-answer : recordAfter (recordOf twice (0 ∷ [])) 0 ≡ recordOf twice (0 ∷ 0 ∷ [])
+unfolding recordAfter recordOf
+same-answer = refl
+
+-- "In that order": a third reply then is 33, though no state allows it.
+had-before-possible : reportOn (recordOf twice (0 ∷ [])) 2 ≡ refused 33
+unfolding reportOn recordOf
+had-before-possible = refl
+
+-- After a refusal "the record comes back unchanged".
+kept-on-refusal : recordAfter (recordOf twice (0 ∷ [])) 1 ≡ recordOf twice (0 ∷ [])
+unfolding recordAfter recordOf
+kept-on-refusal = refl
+
+-- 31: a byte that isn't 0 past a length; one reply more than the routine takes; replies of no run.
+byte-past-length : nextOn (record { sheet = padded 1024 (sheet1 ++ (1 ∷ [])); len = 9; replies = padded 64 []; count = 0 }) ≡ refused 31
+unfolding nextOn padded
+byte-past-length = refl
+
+reply-past-count : nextOn (record { sheet = padded 1024 sheet1; len = 9; replies = padded 64 (1 ∷ []); count = 0 }) ≡ refused 31
+unfolding nextOn padded
+reply-past-count = refl
+
+one-reply-more : nextOn (recordOf sheet1 (0 ∷ 0 ∷ [])) ≡ refused 31
+unfolding nextOn recordOf
+one-reply-more = refl
+
+replies-of-no-run : nextOn (recordOf twice (0 ∷ 1 ∷ [])) ≡ refused 31
+unfolding nextOn recordOf
+replies-of-no-run = refl
