@@ -17,12 +17,7 @@ use Rattle.verifier.specs.declared.verdict.Verdict.{Verdict}
 use Rattle.verifier.specs.Answers.{answerOf as verifiedOf}
 use Rattle.checker.specs.declared.Checked.{Checked}
 use Rattle.checker.specs.Shown.{answerOf as checkedOf}
-use Rattle.runner.specs.declared.kept.Record.{Record}
-use Rattle.runner.specs.declared.kept.AfterLoad.{AfterLoad}
-use Rattle.runner.specs.declared.kept.AfterNext.{AfterNext}
-use Rattle.runner.specs.declared.kept.AfterReport.{AfterReport}
-use Rattle.runner.specs.Records.{loaded, nextOn, reportOn, recordAfter}
-use Rattle.runner.specs.Answers.{toldOf, reportedOf}
+use Rattle.runner.proofs.ListLaws.{Contracts as RunnerContracts}
 use Rattle.claims.specs.Demands.{Library}
 
 pub record Contracts {ℓ} (library : Library {ℓ}) : Type ℓ where
@@ -36,6 +31,4 @@ pub record Contracts {ℓ} (library : Library {ℓ}) : Type ℓ where
   pub verify-contract : (bytes : List ℕ) (budget : ℕ) (old : List ℕ) (r : Verdict) (memory : List ℕ) → library .verifies bytes budget old r memory
       → (verifiedOf r ≡ verified bytes budget old .answer) × (memory ≡ verified bytes budget old .memory)
   pub check-contract : (bytes shown : List ℕ) (r : Checked) → library .checks bytes shown r → checkedOf r ≡ checked bytes shown
-  pub load-contract : (bytes : List ℕ) (l : AfterLoad) → library .loads bytes l → (readOf (l .answer) ≡ withoutValue (reading bytes)) × (l .kept ≡ loaded bytes)
-  pub next-contract : (r : Record) (t : AfterNext) → library .tells r t → (toldOf (t .answer) ≡ nextOn r) × (t .kept ≡ r)
-  pub report-contract : (r : Record) (x : ℕ) (t : AfterReport) → library .reports r x t → (reportedOf (t .answer) ≡ withoutValue (reportOn r x)) × (t .kept ≡ recordAfter r x)
+  pub runner-contracts : RunnerContracts (library .runner)

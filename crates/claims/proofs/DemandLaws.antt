@@ -51,8 +51,9 @@ use Rattle.runner.specs.Answers.{rejectionNumber, reportedOf}
 use Rattle.runner.proofs.CallLaws.{refused-unchanged}
 use Rattle.claims.specs.Demands.{Atom, Condition, Tested, Library, Prepares, Carried, begin, onward, Reaches, first, further, Demand1, Demand2, Supposed, Demand3Verdict, Demand3}
 use Rattle.claims.proofs.Contracts.{Contracts}
-use Rattle.claims.proofs.NumberLaws.{verdict-one, check-one as checked-one, prepared-one, told-one, reported-one}
-use Rattle.claims.proofs.CallLaws.{ListsRun, after-lists, none-told}
+use Rattle.claims.proofs.NumberLaws.{verdict-one, check-one as checked-one, prepared-one}
+use Rattle.runner.proofs.AnswerLaws.{told-one, reported-one}
+use Rattle.runner.proofs.ListLaws.{ListsRun, after-lists, none-told}
 
 -- The checker, by the sheet's reading.
 checked-refused : (shown : List ℕ) (x : Answer Sheet) (k : ℕ) → refused k ≡ checkedFor shown x → x ≡ refused k
@@ -133,16 +134,16 @@ module _ {ℓ} (library : Library {ℓ}) (contracts : Contracts library) where
           ap length (v .1) ∙ k .8,
         ))
         (memory-kept bytes budget old);
-    next-keeps = λ r t call. contracts .next-contract r t call .1;
+    next-keeps = λ r t call. contracts .runner-contracts .next-contract r t call .1;
     refused-keeps = λ r x t call why e.
-        let c = contracts .report-contract r x t call in
+        let c = contracts .runner-contracts .report-contract r x t call in
         c .1 ∙ sym (refused-unchanged r (rejectionNumber why) (reportOn r x) (sym (ap reportedOf e) ∙ c .0));
     read-fixed = contracts .read-contract;
     verify-fixed = contracts .verify-contract;
     check-fixed = contracts .check-contract;
-    load-fixed = contracts .load-contract;
-    next-fixed = λ r t call. contracts .next-contract r t call .0;
-    report-fixed = contracts .report-contract;
+    load-fixed = contracts .runner-contracts .load-contract;
+    next-fixed = λ r t call. contracts .runner-contracts .next-contract r t call .0;
+    report-fixed = contracts .runner-contracts .report-contract;
     read-one = same-answer;
     verify-one = verdict-one;
     check-one = checked-one;
@@ -285,7 +286,7 @@ module _ {ℓ} (library : Library {ℓ}) (contracts : Contracts library) where
         let e = contracts .read-contract bytes a call in
         (λ k. was-refused (reading bytes) (numberOf r) (sym (ap readOf k) ∙ e), λ q. same-answer a (Said.Refused r) (e ∙ ap withoutValue q));
     load-refuses = λ bytes l call r.
-        let e = contracts .load-contract bytes l call .0 in
+        let e = contracts .runner-contracts .load-contract bytes l call .0 in
         (λ k. was-refused (reading bytes) (numberOf r) (sym (ap readOf k) ∙ e), λ q. same-answer (l .answer) (Said.Refused r) (e ∙ ap withoutValue q));
     verify-refuses = λ bytes budget old a memory call enough r.
         let e = contracts .verify-contract bytes budget old a memory call .0 in (
@@ -360,16 +361,16 @@ module _ {ℓ} (library : Library {ℓ}) (contracts : Contracts library) where
     }
 
   -- Demand 3, where every list of calls can be made.
-  pub demand3 : ListsRun library → Demand3 library
+  pub demand3 : ListsRun (library .runner) → Demand3 library
   demand3 run = record {
     atoms-stand = λ bytes sheet heads nodes sets start tables f t.
         let m = mem-get noStates (sheetSets sheet) (tested-set f sheet t) in
         (m .0, tabled bytes sheet heads nodes sets start tables .set-is (m .0) (m .1) ∙ m .2);
     known-exactly = λ bytes sheet heads nodes sets start tables h run p set c. carried-known bytes sheet heads nodes sets start tables h set c;
     verdict = demand3-verdict;
-    lists = after-lists library contracts;
+    lists = after-lists (library .runner) (contracts .runner-contracts);
     valid-told = λ bytes sheet budget old r memory supposed within l call.
         let exactly = demand3-verdict bytes sheet budget old r memory supposed .valid-exactly within in
-        let told = none-told library contracts bytes sheet (supposed .read) run l call in
+        let told = none-told (library .runner) (contracts .runner-contracts) bytes sheet (supposed .read) run l call in
         (λ e. told .0 (exactly .0 e), λ k. exactly .1 (told .1 k));
   }

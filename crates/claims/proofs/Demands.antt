@@ -6,10 +6,10 @@ use prog.Model.{Model}
 use contract.Running.{GhostRules}
 use Rattle.claims.specs.Demands.{Library, Callable, Demands}
 use Rattle.claims.proofs.Contracts.{Contracts}
-use Rattle.claims.proofs.CallLaws.{Going, lists-run}
+use Rattle.runner.proofs.ListLaws.{ListsRun, lists-run}
 use Rattle.claims.proofs.DemandLaws.{demand1, demand2, demand3}
 use Rattle.claims.proofs.Runs.{CanRead, ReadRan, read-ran, read-ends, CanPrepare, PrepareRan, prepare-ran, prepare-ends, CanSettle, SettleRan, settle-ran, settle-ends, CanStep, StepRan, step-ran, step-ends, CanKnown, KnownRan, known-ran, known-ends, CanVerify, VerifyRan, verify-ran, verify-ends, CanCheck, CheckRan, check-ran, check-ends}
-use Rattle.claims.proofs.RunnerRuns.{CanPass, CanLoad, LoadRan, load-ran, load-ends, load-passes, NextRan, next-ran, next-ends, next-passes, ReportRan, report-ran, report-ends, report-passes}
+use Rattle.claims.proofs.RunnerRuns.{CanPass, CanLoad, load-ends, next-ends, report-ends, ran, ran-contracts, ran-going}
 
 module _ {M : Type 1} (𝓤 : URA M) (H : Heap 𝓤) (𝓜 : Model 𝓤 H) (𝓖 : GhostRules 𝓤 H) where
   abbrev pub run : Library {1}
@@ -21,9 +21,7 @@ module _ {M : Type 1} (𝓤 : URA M) (H : Heap 𝓤) (𝓜 : Model 𝓤 H) (𝓖
     knows = KnownRan 𝓤 H 𝓜 𝓖;
     verifies = VerifyRan 𝓤 H 𝓜 𝓖;
     checks = CheckRan 𝓤 H 𝓜 𝓖;
-    loads = LoadRan 𝓤 H 𝓜 𝓖;
-    tells = NextRan 𝓤 H 𝓜 𝓖;
-    reports = ReportRan 𝓤 H 𝓜 𝓖;
+    runner = ran 𝓤 H 𝓜 𝓖;
   }
 
   abbrev pub lent : Callable {1}
@@ -48,21 +46,13 @@ module _ {M : Type 1} (𝓤 : URA M) (H : Heap 𝓤) (𝓜 : Model 𝓤 H) (𝓖
     known-contract = known-ran 𝓤 H 𝓜 𝓖;
     verify-contract = verify-ran 𝓤 H 𝓜 𝓖;
     check-contract = check-ran 𝓤 H 𝓜 𝓖;
-    load-contract = load-ran 𝓤 H 𝓜 𝓖;
-    next-contract = next-ran 𝓤 H 𝓜 𝓖;
-    report-contract = report-ran 𝓤 H 𝓜 𝓖;
+    runner-contracts = ran-contracts 𝓤 H 𝓜 𝓖;
   }
 
-  going : Going run (CanPass 𝓤 H 𝓜 𝓖)
-  going = record {
-    load-passes = λ bytes l c. ∣ load-passes 𝓤 H 𝓜 𝓖 bytes l c ∣₁;
-    next-goes = next-ends 𝓤 H 𝓜 𝓖;
-    next-passes = λ r t c. ∣ next-passes 𝓤 H 𝓜 𝓖 r t c ∣₁;
-    report-goes = report-ends 𝓤 H 𝓜 𝓖;
-    report-passes = λ r y t c. ∣ report-passes 𝓤 H 𝓜 𝓖 r y t c ∣₁;
-  }
+  runs : ListsRun (ran 𝓤 H 𝓜 𝓖)
+  runs = lists-run (ran 𝓤 H 𝓜 𝓖) (CanPass 𝓤 H 𝓜 𝓖) (ran-going 𝓤 H 𝓜 𝓖)
 
-  -- THE PROOF.
+  -- The proof.
   pub demands : Demands run lent
   demands = record {
     ends = record {
@@ -76,9 +66,9 @@ module _ {M : Type 1} (𝓤 : URA M) (H : Heap 𝓤) (𝓜 : Model 𝓤 H) (𝓖
       load-ends = load-ends 𝓤 H 𝓜 𝓖;
       next-ends = next-ends 𝓤 H 𝓜 𝓖;
       report-ends = report-ends 𝓤 H 𝓜 𝓖;
-      lists-run = lists-run run (CanPass 𝓤 H 𝓜 𝓖) going;
+      lists-run = runs;
     };
     demand1 = demand1 run contracts;
     demand2 = demand2 run contracts;
-    demand3 = demand3 run contracts (lists-run run (CanPass 𝓤 H 𝓜 𝓖) going);
+    demand3 = demand3 run contracts runs;
   }

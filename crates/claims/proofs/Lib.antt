@@ -1,7 +1,5 @@
 pub mod NumberLaws
 pub mod Contracts
-pub mod CallLaws
-pub mod GivenLaws
 pub mod DemandLaws
 pub mod Promises
 pub mod Machine

@@ -1,5 +1,4 @@
 -- An answer is known by its number and values. Assumes nothing.
-use Prim.Native.Nat.{ℕ}
 use mathlib.Core.Path.{_≡_, refl, sym, ap, _∙_}
 use mathlib.Core.Bool.{Bool, true, false}
 use lib.Dec.{eqb}
@@ -9,7 +8,6 @@ use Rattle.reader.specs.declared.refusal.Refusal.{Refusal}
 use Rattle.reader.specs.Answers.{numberOf}
 use Rattle.reader.proofs.AnswerLaws.{refusalOf, number-refusal}
 use Rattle.semantics.specs.Verdict.{Verdict as Meant, valid, invalid, stopped}
-use Rattle.semantics.specs.Replies.{Told as Telling, to-do, at-end}
 use Rattle.states.specs.declared.States.{States}
 use Rattle.routine.specs.declared.sheet.Prepared.{Prepared}
 use Rattle.routine.specs.Tables.{preparedOf}
@@ -17,10 +15,6 @@ use Rattle.verifier.specs.declared.verdict.Verdict.{Verdict}
 use Rattle.verifier.specs.Answers.{answerOf as verifiedOf}
 use Rattle.checker.specs.declared.Checked.{Checked}
 use Rattle.checker.specs.Shown.{answerOf as checkedOf}
-use Rattle.runner.specs.declared.answer.Rejection.{Rejection}
-use Rattle.runner.specs.declared.answer.Told.{Told}
-use Rattle.runner.specs.declared.answer.Reported.{Reported}
-use Rattle.runner.specs.Answers.{toldOf, reportedOf}
 
 -- No sheet is refused with the number of a short memory.
 no-thirty : (r : Refusal) → eqb (numberOf r) 30 ≡ false
@@ -88,38 +82,3 @@ preparation-back (Prepared.Refused r) = ap Prepared.Refused (number-refusal r)
 
 pub prepared-one : (p q : Prepared) → preparedOf p ≡ preparedOf q → p ≡ q
 prepared-one p q e = sym (preparation-back p) ∙ ap preparationOf e ∙ preparation-back q
-
--- And of "Next" and "Report".
-unfoldable tellingOf : Answer Telling → Told
-tellingOf (accepted (to-do a)) = Told.Act a
-tellingOf (accepted (at-end holds)) = Told.End holds
-tellingOf (refused k) = Told.BadRecord
-
-telling-back : (t : Told) → tellingOf (toldOf t) ≡ t
-unfolding tellingOf toldOf
-telling-back (Told.Act a) = refl
-telling-back (Told.End holds) = refl
-telling-back Told.BadRecord = refl
-
-pub told-one : (t u : Told) → toldOf t ≡ toldOf u → t ≡ u
-told-one t u e = sym (telling-back t) ∙ ap tellingOf e ∙ telling-back u
-
-unfoldable rejectionOf : ℕ → Rejection
-unfolding if_then_else_
-rejectionOf k = if eqb k 31 then Rejection.BadRecord else if eqb k 32 then Rejection.AtEnd else if eqb k 33 then Rejection.NoSuchReply else Rejection.NotPossible
-
-unfoldable reportOf : Answer (Unit {0}) → Reported
-unfolding rejectionOf
-reportOf (accepted u) = Reported.Accepted
-reportOf (refused k) = Reported.Refused (rejectionOf k)
-
-report-back : (t : Reported) → reportOf (reportedOf t) ≡ t
-unfolding reportOf reportedOf
-report-back Reported.Accepted = refl
-report-back (Reported.Refused Rejection.BadRecord) = refl
-report-back (Reported.Refused Rejection.AtEnd) = refl
-report-back (Reported.Refused Rejection.NoSuchReply) = refl
-report-back (Reported.Refused Rejection.NotPossible) = refl
-
-pub reported-one : (t u : Reported) → reportedOf t ≡ reportedOf u → t ≡ u
-reported-one t u e = sym (report-back t) ∙ ap reportOf e ∙ report-back u

@@ -2,7 +2,7 @@
 -- `Reads` is what a caller learns from the contract; weaken a contract, and these theorems are refused.) Assumes nothing.
 use Prim.Native.Nat.{ℕ}
 use mathlib.Core.List.{List}
-use mathlib.Core.Path.{_≡_, refl, sym, ap, _∙_}
+use mathlib.Core.Path.{_≡_, sym, ap, _∙_}
 use mathlib.Core.Bool.{Bool}
 use contract.Lifetimes.{Lfts}
 use denote.Ref.{now}
@@ -34,21 +34,9 @@ use Rattle.verifier.proofs.verify as verify
 use Rattle.verifier.proofs.verify.Reads as verify-reads
 use Rattle.checker.proofs.check as check
 use Rattle.checker.proofs.check.Reads as check-reads
-use Rattle.runner.specs.declared.kept.Record.{Record}
-use Rattle.runner.specs.declared.kept.AfterLoad.{AfterLoad}
-use Rattle.runner.specs.declared.kept.AfterNext.{AfterNext}
-use Rattle.runner.specs.declared.kept.AfterReport.{AfterReport}
-use Rattle.runner.specs.Records.{loaded, recordAfter}
-use Rattle.runner.proofs.kept.Record.load as load
-use Rattle.runner.proofs.kept.Record.load.Reads as load-reads
-use Rattle.runner.proofs.kept.Record.next as next
-use Rattle.runner.proofs.kept.Record.next.Reads as next-reads
-use Rattle.runner.proofs.kept.Record.report as report
-use Rattle.runner.proofs.kept.Record.report.Reads as report-reads
+use Rattle.runner.proofs.Promises.{promised as runner-promised, contracts as runner-contracts, lists-run-promised}
 use Rattle.claims.specs.Demands.{Library, Demand1, Demand2, Demand3}
 use Rattle.claims.proofs.Contracts.{Contracts}
-use Rattle.claims.proofs.GivenLaws.{next-given, report-given}
-use Rattle.claims.proofs.CallLaws.{Going, lists-run}
 use Rattle.claims.proofs.DemandLaws.{demand1, demand2, demand3}
 
 -- `reader::read` of a lent sheet.
@@ -89,16 +77,6 @@ abbrev pub CheckMay : (bytes shown : List ℕ) → Checked → Type 0
 CheckMay bytes shown r =
     (κs : Lfts 2) × (a : Args check.signature κs) × (ws : Lasts check.ended κs a) × (now (a .0) ≡ bytes) × (now (a .1 .0) ≡ shown) × check-reads.Learnt κs a r (atExit check.ended κs a ws)
 
--- `Record::load` of a lent sheet; `next` and `report` on a record.
-abbrev pub LoadMay : (bytes : List ℕ) → AfterLoad → Type 0
-LoadMay bytes l = (κs : Lfts 1) × (a : Args load.signature κs) × (ws : Lasts load.ended κs a) × (now (a .0) ≡ bytes) × load-reads.Learnt κs a l (atExit load.ended κs a ws)
-
-abbrev pub NextMay : Record → AfterNext → Type 0
-NextMay r t = (ws : Lasts next.ended tt (r, tt)) × next-reads.Learnt tt (r, tt) t (atExit next.ended tt (r, tt) ws)
-
-abbrev pub ReportMay : Record → (reply : ℕ) → AfterReport → Type 0
-ReportMay r x t = (ws : Lasts report.ended tt (r, (x, tt))) × report-reads.Learnt tt (r, (x, tt)) t (atExit report.ended tt (r, (x, tt)) ws)
-
 -- The library by its contracts.
 abbrev pub promised : Library {0}
 promised = record {
@@ -109,9 +87,7 @@ promised = record {
   knows = KnownMay;
   verifies = VerifyMay;
   checks = CheckMay;
-  loads = LoadMay;
-  tells = NextMay;
-  reports = ReportMay;
+  runner = runner-promised;
 }
 
 pub contracts : Contracts promised
@@ -132,19 +108,7 @@ contracts = record {
       let l = c .7 in
       (l .0 ∙ ap (λ (v : Verified). v .answer) same, sym (c .6) ∙ l .1 ∙ ap (λ (v : Verified). v .memory) same);
   check-contract = λ bytes shown r c. c .5 ∙ (λ i. checked (c .3 i) (c .4 i));
-  load-contract = λ bytes l c. (c .4 .0 ∙ ap (λ (b : List ℕ). withoutValue (reading b)) (c .3), c .4 .1 ∙ ap loaded (c .3));
-  next-contract = λ r t c. c .1;
-  report-contract = λ r x t c. c .1;
-}
-
--- By the contracts there is always an answer to "Next" and "Report".
-going : Going promised (λ (r : Record). Unit {0})
-going = record {
-  load-passes = λ bytes l c. ∣ tt ∣₁;
-  next-goes = λ r h. let a = next-given r in ∣ (record { answer = a .0; kept = r }, ((tt, tt), (a .1, refl))) ∣₁;
-  next-passes = λ r t c. ∣ tt ∣₁;
-  report-goes = λ r x b h. let a = report-given r x in ∣ (record { answer = a .0; kept = recordAfter r x }, ((tt, (tt, tt)), (a .1, refl))) ∣₁;
-  report-passes = λ r x t c. ∣ tt ∣₁;
+  runner-contracts = runner-contracts;
 }
 
 -- The demands hold of them. (That calls end is not in a contract: proofs/Demands.antt.)
@@ -155,4 +119,4 @@ pub demand2-promised : Demand2 promised
 demand2-promised = demand2 promised contracts
 
 pub demand3-promised : Demand3 promised
-demand3-promised = demand3 promised contracts (lists-run promised (λ (r : Record). Unit {0}) going)
+demand3-promised = demand3 promised contracts lists-run-promised

@@ -43,7 +43,9 @@ use Rattle.runner.proofs.kept.Record.report as report
 use Rattle.runner.proofs.kept.Record.report.Reads as report-reads
 use Rattle.runner.proofs.kept.Record.report.Met as report-met
 use Rattle.runner.proofs.kept.Record.report.Symbol as report-symbol
-use Rattle.claims.proofs.Promises.{contracts}
+use Rattle.runner.specs.Calls.{Runner}
+use Rattle.runner.proofs.ListLaws.{Contracts, Going}
+use Rattle.runner.proofs.Promises.{contracts}
 use Rattle.claims.proofs.Machine.{Callable, Ran, Does, does, exit-fact}
 use Rattle.claims.proofs.Lowered.{machine-load-one, machine-next-one, machine-report-one}
 use Rattle.claims.proofs.SetLaws.{unit-answer-set, told-answer-set, record-set}
@@ -191,3 +193,19 @@ module _ {M : Type 1} (𝓤 : URA M) (H : Heap 𝓤) (𝓜 : Model 𝓤 H) (𝓖
 
   pub report-passes : (r : Record) (y : ℕ) (t : AfterReport) → ReportRan r y t → CanPass (t .kept)
   report-passes r y t c = (c .3 .0, any-memory (c .3 .0) _ (c .3 .3), legal-record (t .kept) _ (c .3 .5 .1 .1 .1 .0))
+
+  -- The three calls as runs: they do what the contracts say, and every call ends with a record that can be passed.
+  abbrev pub ran : Runner {1}
+  ran = record { loads = LoadRan; tells = NextRan; reports = ReportRan }
+
+  pub ran-contracts : Contracts ran
+  ran-contracts = record { load-contract = load-ran; next-contract = next-ran; report-contract = report-ran }
+
+  pub ran-going : Going ran CanPass
+  ran-going = record {
+    load-passes = λ bytes l c. ∣ load-passes bytes l c ∣₁;
+    next-goes = next-ends;
+    next-passes = λ r t c. ∣ next-passes r t c ∣₁;
+    report-goes = report-ends;
+    report-passes = λ r y t c. ∣ report-passes r y t c ∣₁;
+  }

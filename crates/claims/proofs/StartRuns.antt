@@ -31,11 +31,11 @@ use Rattle.runner.specs.declared.kept.AfterLoad.{AfterLoad}
 use Rattle.runner.specs.Records.{loaded}
 use Rattle.runner.proofs.kept.AfterLoad as after-load-type
 use Rattle.runner.proofs.kept.Record.load.Symbol as load-symbol
-use Rattle.claims.specs.Calls.{Call, Event, callOf, Bytes, Calls}
+use Rattle.runner.specs.Calls.{Call, Event, callOf, Bytes, Calls}
 use Rattle.claims.proofs.Memory.{AllBytes, all-fit, Loads, pointer, Holding, loads-bytes}
 use Rattle.claims.proofs.MemoryRuns.{can-read, can-load, load-memory, can-check, can-verify, verify-memory}
 use Rattle.claims.proofs.Runs.{CanRead, CanCheck, CanVerify}
-use Rattle.claims.proofs.RunnerRuns.{CanLoad, LoadRan, NextRan, ReportRan}
+use Rattle.claims.proofs.RunnerRuns.{CanLoad, LoadRan, ran}
 use Rattle.claims.proofs.Demands.{demands}
 
 module _ {M : Type 1} (𝓤 : URA M) (H : Heap 𝓤) (𝓜 : Model 𝓤 H) (𝓖 : GhostRules 𝓤 H) where
@@ -67,7 +67,7 @@ module _ {M : Type 1} (𝓤 : URA M) (H : Heap 𝓤) (𝓜 : Model 𝓤 H) (𝓖
   -- Every sheet, in the form or not, can be loaded, and every list of calls runs on the record that loading it returned.
   pub sheet-runs : (sheet : List ℕ) → AllBytes sheet → length sheet < 2 ^ 63 → (cs : List Call) → Bytes cs
       → ∥ ((l : AfterLoad) × LoadRan 𝓤 H 𝓜 𝓖 sheet l
-      × ((es : List Event) × (q : Record) × Calls (NextRan 𝓤 H 𝓜 𝓖) (ReportRan 𝓤 H 𝓜 𝓖) (l .kept) es q × (map callOf es ≡ cs))) ∥₁
+      × ((es : List Event) × (q : Record) × Calls (ran 𝓤 H 𝓜 𝓖) (l .kept) es q × (map callOf es ≡ cs))) ∥₁
   sheet-runs sheet h fits cs k =
       ∥∥₁-elim (loads-any sheet h fits) ∥∥₁-prop (λ can.
       ∥∥₁-elim (demands 𝓤 H 𝓜 𝓖 .ends .load-ends sheet can) ∥∥₁-prop (λ l.
@@ -76,7 +76,7 @@ module _ {M : Type 1} (𝓤 : URA M) (H : Heap 𝓤) (𝓜 : Model 𝓤 H) (𝓖
 -- The same in the closed model, which is built.
 pub sheet-runs-closed : (sheet : List ℕ) → AllBytes sheet → length sheet < 2 ^ 63 → (cs : List Call) → Bytes cs
     → ∥ ((l : AfterLoad) × LoadRan closed.𝓤 closed.H closed.model ghost₀ sheet l
-    × ((es : List Event) × (q : Record) × Calls (NextRan closed.𝓤 closed.H closed.model ghost₀) (ReportRan closed.𝓤 closed.H closed.model ghost₀) (l .kept) es q × (map callOf es ≡ cs))) ∥₁
+    × ((es : List Event) × (q : Record) × Calls (ran closed.𝓤 closed.H closed.model ghost₀) (l .kept) es q × (map callOf es ≡ cs))) ∥₁
 sheet-runs-closed = sheet-runs closed.𝓤 closed.H closed.model ghost₀
 
 -- The machine alone: the routine of `Record::load`, called on the first block, ends, returns the record that the definitions say, and leaves the sheet.

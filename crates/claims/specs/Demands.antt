@@ -34,7 +34,7 @@ use Rattle.runner.specs.declared.kept.AfterNext.{AfterNext}
 use Rattle.runner.specs.declared.kept.AfterReport.{AfterReport}
 use Rattle.runner.specs.Records.{loaded, nextOn, reportOn, recordAfter}
 use Rattle.runner.specs.Answers.{toldOf, reportedOf}
-use Rattle.claims.specs.Calls.{Call, Event, callOf, Bytes, acceptedIn, Calls, AfterCalls}
+use Rattle.runner.specs.Calls.{Call, Event, callOf, Bytes, acceptedIn, Runner, Calls, AfterCalls}
 
 -- An objective formula is that of an atom, "known" or "not known", of an epistemic formula; an epistemic formula is a condition of a program.
 unfoldable pub Atom : Objective → Epistemic → Type 0
@@ -60,9 +60,7 @@ pub record Library {ℓ} : Type (ℓ + 1) where
   pub knows : (sets : List ℕ) (k : ℕ) → States → Bool → Type ℓ
   pub verifies : (bytes : List ℕ) (budget : ℕ) (old : List ℕ) → Verdict → (memory : List ℕ) → Type ℓ
   pub checks : (bytes shown : List ℕ) → Checked → Type ℓ
-  pub loads : (bytes : List ℕ) → AfterLoad → Type ℓ
-  pub tells : Record → AfterNext → Type ℓ
-  pub reports : Record → (reply : ℕ) → AfterReport → Type ℓ
+  pub runner : Runner {ℓ}
 
 -- The values with which each function can be called: of lent memory, what it holds; of a record, `can-pass`. (A reply is a byte.)
 pub record Callable {ℓ} : Type (ℓ + 1) where
@@ -111,12 +109,12 @@ module _ {ℓ} (library : Library {ℓ}) where
     pub verify-ends : (bytes : List ℕ) (budget : ℕ) (old : List ℕ) → callable .can-verify bytes budget old
         → ∥ ((r : Verdict) × (memory : List ℕ) × library .verifies bytes budget old r memory) ∥₁
     pub check-ends : (bytes shown : List ℕ) → callable .can-check bytes shown → ∥ ((a : Checked) × library .checks bytes shown a) ∥₁
-    pub load-ends : (bytes : List ℕ) → callable .can-load bytes → ∥ ((l : AfterLoad) × library .loads bytes l) ∥₁
-    pub next-ends : (r : Record) → callable .can-pass r → ∥ ((t : AfterNext) × library .tells r t) ∥₁
-    pub report-ends : (r : Record) (x : ℕ) → x < 256 → callable .can-pass r → ∥ ((t : AfterReport) × library .reports r x t) ∥₁
+    pub load-ends : (bytes : List ℕ) → callable .can-load bytes → ∥ ((l : AfterLoad) × library .runner .loads bytes l) ∥₁
+    pub next-ends : (r : Record) → callable .can-pass r → ∥ ((t : AfterNext) × library .runner .tells r t) ∥₁
+    pub report-ends : (r : Record) (x : ℕ) → x < 256 → callable .can-pass r → ∥ ((t : AfterReport) × library .runner .reports r x t) ∥₁
     -- And every list of calls can be made on a record that loading returned: each returns a record with which the next can be called.
-    pub lists-run : (bytes : List ℕ) (l : AfterLoad) → library .loads bytes l → (cs : List Call) → Bytes cs
-        → ∥ ((es : List Event) × (q : Record) × Calls (library .tells) (library .reports) (l .kept) es q × (map callOf es ≡ cs)) ∥₁
+    pub lists-run : (bytes : List ℕ) (l : AfterLoad) → library .runner .loads bytes l → (cs : List Call) → Bytes cs
+        → ∥ ((es : List Event) × (q : Record) × Calls (library .runner) (l .kept) es q × (map callOf es ≡ cs)) ∥₁
 
   -- Demand 1, of what the calls give back.
   pub record Demand1 : Type ℓ where
@@ -127,16 +125,16 @@ module _ {ℓ} (library : Library {ℓ}) where
         ⊎ ((sheet : Sheet) × (h : History) × (run : List ℕ) × (reading bytes ≡ accepted sheet) × Failing sheet h run × (r ≡ Verdict.Invalid (historyCount sheet) (length h))
         × (memory ≡ trace h run ++ drop (length (trace h run)) old) × (length memory ≡ length old))
     -- "The runner's record after a refused call on it is the record before it." ("Next" returns it in any case.)
-    pub next-keeps : (r : Record) (t : AfterNext) → library .tells r t → t .kept ≡ r
-    pub refused-keeps : (r : Record) (x : ℕ) (t : AfterReport) → library .reports r x t → (why : Rejection) → t .answer ≡ Reported.Refused why → t .kept ≡ r
+    pub next-keeps : (r : Record) (t : AfterNext) → library .runner .tells r t → t .kept ≡ r
+    pub refused-keeps : (r : Record) (x : ℕ) (t : AfterReport) → library .runner .reports r x t → (why : Rejection) → t .answer ≡ Reported.Refused why → t .kept ≡ r
     -- ".. with an answer that document 01 fixes": the one that the definitions give, with document 01's numbers and values; so the same call gets the same.
     pub read-fixed : (bytes : List ℕ) (a : Said) → library .reads bytes a → readOf a ≡ withoutValue (reading bytes)
     pub verify-fixed : (bytes : List ℕ) (budget : ℕ) (old : List ℕ) (r : Verdict) (memory : List ℕ) → library .verifies bytes budget old r memory
         → (verifiedOf r ≡ verified bytes budget old .answer) × (memory ≡ verified bytes budget old .memory)
     pub check-fixed : (bytes shown : List ℕ) (a : Checked) → library .checks bytes shown a → checkedOf a ≡ checked bytes shown
-    pub load-fixed : (bytes : List ℕ) (l : AfterLoad) → library .loads bytes l → (readOf (l .answer) ≡ withoutValue (reading bytes)) × (l .kept ≡ loaded bytes)
-    pub next-fixed : (r : Record) (t : AfterNext) → library .tells r t → toldOf (t .answer) ≡ nextOn r
-    pub report-fixed : (r : Record) (x : ℕ) (t : AfterReport) → library .reports r x t → (reportedOf (t .answer) ≡ withoutValue (reportOn r x)) × (t .kept ≡ recordAfter r x)
+    pub load-fixed : (bytes : List ℕ) (l : AfterLoad) → library .runner .loads bytes l → (readOf (l .answer) ≡ withoutValue (reading bytes)) × (l .kept ≡ loaded bytes)
+    pub next-fixed : (r : Record) (t : AfterNext) → library .runner .tells r t → toldOf (t .answer) ≡ nextOn r
+    pub report-fixed : (r : Record) (x : ℕ) (t : AfterReport) → library .runner .reports r x t → (reportedOf (t .answer) ≡ withoutValue (reportOn r x)) × (t .kept ≡ recordAfter r x)
     -- What an answer means tells the answer: no two answers have the same number and values.
     pub read-one : (a b : Said) → readOf a ≡ readOf b → a ≡ b
     pub verify-one : (r q : Verdict) → verifiedOf r ≡ verifiedOf q → r ≡ q
@@ -153,7 +151,7 @@ module _ {ℓ} (library : Library {ℓ}) where
     pub read-accepts : (bytes : List ℕ) (a : Said) → library .reads bytes a → (a ≡ Said.Accepted) ↔ ((sheet : Sheet) × (reading bytes ≡ accepted sheet))
     pub read-refuses : (bytes : List ℕ) (a : Said) → library .reads bytes a → (r : Refusal) → (a ≡ Said.Refused r) ↔ (reading bytes ≡ refused (numberOf r))
     -- "A sheet outside that form is refused, and no other is": so do loading, the verifier, where the memory is long enough, and the trace checker.
-    pub load-refuses : (bytes : List ℕ) (l : AfterLoad) → library .loads bytes l → (r : Refusal) → (l .answer ≡ Said.Refused r) ↔ (reading bytes ≡ refused (numberOf r))
+    pub load-refuses : (bytes : List ℕ) (l : AfterLoad) → library .runner .loads bytes l → (r : Refusal) → (l .answer ≡ Said.Refused r) ↔ (reading bytes ≡ refused (numberOf r))
     pub verify-refuses : (bytes : List ℕ) (budget : ℕ) (old : List ℕ) (a : Verdict) (memory : List ℕ) → library .verifies bytes budget old a memory → 129 ≤ length old
         → (r : Refusal) → (a ≡ Verdict.Refused r) ↔ (reading bytes ≡ refused (numberOf r))
     pub check-refuses : (bytes shown : List ℕ) (a : Checked) → library .checks bytes shown a → (r : Refusal) → (a ≡ Checked.Refused r) ↔ (reading bytes ≡ refused (numberOf r))
@@ -208,14 +206,14 @@ module _ {ℓ} (library : Library {ℓ}) where
         → (b ≡ true) ↔ ((other : List ℕ) → IsRun sheet h other → holds f (lastState other) ≡ true)
     pub verdict : (bytes : List ℕ) (sheet : Sheet) (budget : ℕ) (old : List ℕ) (r : Verdict) (memory : List ℕ) → Supposed bytes sheet budget old r memory
         → Demand3Verdict bytes sheet budget old r memory
-    -- "Take any list of "Next" and "Report" calls, refused ones included, from a record freshly loaded with the sheet." What holds after it: specs/Calls.antt.
-    pub lists : (bytes : List ℕ) (sheet : Sheet) → reading bytes ≡ accepted sheet → (l : AfterLoad) → library .loads bytes l
-        → (es : List Event) (q : Record) → Calls (library .tells) (library .reports) (l .kept) es q → AfterCalls (library .tells) (library .reports) sheet (acceptedIn es) q
+    -- "Take any list of "Next" and "Report" calls, refused ones included, from a record freshly loaded with the sheet." What holds after it: runner/specs/Calls.antt.
+    pub lists : (bytes : List ℕ) (sheet : Sheet) → reading bytes ≡ accepted sheet → (l : AfterLoad) → library .runner .loads bytes l
+        → (es : List Event) (q : Record) → Calls (library .runner) (l .kept) es q → AfterCalls (library .runner) sheet (acceptedIn es) q
     -- "The verdict is "valid" exactly when "Next" says after no such list that the goal fails."
     pub valid-told : (bytes : List ℕ) (sheet : Sheet) (budget : ℕ) (old : List ℕ) (r : Verdict) (memory : List ℕ) → Supposed bytes sheet budget old r memory
-        → historyCount sheet ≤ budget → (l : AfterLoad) → library .loads bytes l
+        → historyCount sheet ≤ budget → (l : AfterLoad) → library .runner .loads bytes l
         → (r ≡ Verdict.Valid (historyCount sheet))
-        ↔ ((es : List Event) (q : Record) → Calls (library .tells) (library .reports) (l .kept) es q → (t : AfterNext) → library .tells q t → t .answer ≡ Told.End false → ⊥)
+        ↔ ((es : List Event) (q : Record) → Calls (library .runner) (l .kept) es q → (t : AfterNext) → library .runner .tells q t → t .answer ≡ Told.End false → ⊥)
 
   -- The demands.
   pub record Demands (callable : Callable {ℓ}) : Type ℓ where

@@ -4,3 +4,7 @@ pub mod StandLaws
 pub mod WalkLaws
 pub mod CallLaws
 pub mod HeldLaws
+pub mod AnswerLaws
+pub mod GivenLaws
+pub mod ListLaws
+pub mod Promises

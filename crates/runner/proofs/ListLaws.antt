@@ -8,7 +8,7 @@ use mathlib.Core.Bool.{Bool, true, false}
 use native.Mathlib.Omega.{arith}
 use Rattle.reader.specs.Syntax.{Sheet}
 use Rattle.reader.specs.Format.{accepted, reading}
-use Rattle.reader.specs.Answers.{withoutValue}
+use Rattle.reader.specs.Answers.{answerOf as readOf, withoutValue}
 use Rattle.reader.proofs.AnswerLaws.{was-accepted, was-refused}
 use Rattle.semantics.specs.Runs.{Entry, History, replies, holdsAfter}
 use Rattle.semantics.specs.Routine.{Following, Full, Failing}
@@ -16,37 +16,41 @@ use Rattle.semantics.specs.Replies.{Told as Telling, to-do, at-end, told, repor
 use Rattle.semantics.proofs.RunLaws.{tested-holds, holds-tested}
 use Rattle.semantics.proofs.ReplyLaws.{accepted-run, run-accepted, accepted-replies, end-told, told-end, told-action}
 use Rattle.semantics.proofs.AcceptedLaws.{starts, entries-fit, EntriesFit, told-goes-on}
 use Rattle.runner.specs.declared.answer.Rejection.{Rejection}
 use Rattle.runner.specs.declared.answer.Told.{Told}
 use Rattle.runner.specs.declared.answer.Reported.{Reported}
 use Rattle.runner.specs.declared.kept.Record.{Record}
 use Rattle.runner.specs.declared.kept.AfterLoad.{AfterLoad}
 use Rattle.runner.specs.declared.kept.AfterNext.{AfterNext}
 use Rattle.runner.specs.declared.kept.AfterReport.{AfterReport}
-use Rattle.runner.specs.Records.{recordOf}
+use Rattle.runner.specs.Records.{recordOf, loaded, nextOn, reportOn, recordAfter}
 use Rattle.runner.specs.Answers.{rejectionNumber, toldOf, reportedOf}
 use Rattle.runner.proofs.CallLaws.{reported-adds}
 use Rattle.runner.proofs.HeldLaws.{loaded-record, next-held, report-held, after-added, after-refused}
-use Rattle.claims.specs.Calls.{Call, Event, asked, reported, callOf, Bytes, acceptedIn, Calls, none, then-next, then-report, AfterCalls}
-use Rattle.claims.specs.Demands.{Library}
-use Rattle.claims.proofs.Contracts.{Contracts}
-use Rattle.claims.proofs.NumberLaws.{told-one, reported-one}
+use Rattle.runner.specs.Calls.{Call, Event, asked, reported, callOf, Bytes, acceptedIn, Runner, Calls, none, then-next, then-report, AfterCalls}
+use Rattle.runner.proofs.AnswerLaws.{told-one, reported-one}
+
+-- What the contracts of the three calls say.
+pub record Contracts {ℓ} (runner : Runner {ℓ}) : Type ℓ where
+  pub load-contract : (bytes : List ℕ) (l : AfterLoad) → runner .loads bytes l → (readOf (l .answer) ≡ withoutValue (reading bytes)) × (l .kept ≡ loaded bytes)
+  pub next-contract : (r : Record) (t : AfterNext) → runner .tells r t → (toldOf (t .answer) ≡ nextOn r) × (t .kept ≡ r)
+  pub report-contract : (r : Record) (x : ℕ) (t : AfterReport) → runner .reports r x t → (reportedOf (t .answer) ≡ withoutValue (reportOn r x)) × (t .kept ≡ recordAfter r x)
 
 -- Every list of calls can be made on a record that loading returned.
-abbrev pub ListsRun {ℓ} : Library {ℓ} → Type ℓ
-ListsRun library = (bytes : List ℕ) (l : AfterLoad) → library .loads bytes l → (cs : List Call) → Bytes cs
-    → ∥ ((es : List Event) × (q : Record) × Calls (library .tells) (library .reports) (l .kept) es q × (map callOf es ≡ cs)) ∥₁
+abbrev pub ListsRun {ℓ} : Runner {ℓ} → Type ℓ
+ListsRun runner = (bytes : List ℕ) (l : AfterLoad) → runner .loads bytes l → (cs : List Call) → Bytes cs
+    → ∥ ((es : List Event) × (q : Record) × Calls runner (l .kept) es q × (map callOf es ≡ cs)) ∥₁
 
 -- It is so where every call ends on a record that can be passed, with a record that can be.
-pub record Going {ℓ} (library : Library {ℓ}) (CanPass : Record → Type ℓ) : Type ℓ where
-  pub load-passes : (bytes : List ℕ) (l : AfterLoad) → library .loads bytes l → ∥ CanPass (l .kept) ∥₁
-  pub next-goes : (r : Record) → CanPass r → ∥ ((t : AfterNext) × library .tells r t) ∥₁
-  pub next-passes : (r : Record) (t : AfterNext) → library .tells r t → ∥ CanPass (t .kept) ∥₁
-  pub report-goes : (r : Record) (x : ℕ) → x < 256 → CanPass r → ∥ ((t : AfterReport) × library .reports r x t) ∥₁
-  pub report-passes : (r : Record) (x : ℕ) (t : AfterReport) → library .reports r x t → ∥ CanPass (t .kept) ∥₁
+pub record Going {ℓ} (runner : Runner {ℓ}) (CanPass : Record → Type ℓ) : Type ℓ where
+  pub load-passes : (bytes : List ℕ) (l : AfterLoad) → runner .loads bytes l → ∥ CanPass (l .kept) ∥₁
+  pub next-goes : (r : Record) → CanPass r → ∥ ((t : AfterNext) × runner .tells r t) ∥₁
+  pub next-passes : (r : Record) (t : AfterNext) → runner .tells r t → ∥ CanPass (t .kept) ∥₁
+  pub report-goes : (r : Record) (x : ℕ) → x < 256 → CanPass r → ∥ ((t : AfterReport) × runner .reports r x t) ∥₁
+  pub report-passes : (r : Record) (x : ℕ) (t : AfterReport) → runner .reports r x t → ∥ CanPass (t .kept) ∥₁
 
-module _ {ℓ} (library : Library {ℓ}) (CanPass : Record → Type ℓ) (going : Going library CanPass) where
-  calls-run : (cs : List Call) → Bytes cs → (r : Record) → CanPass r → ∥ ((es : List Event) × (q : Record) × Calls (library .tells) (library .reports) r es q × (map callOf es ≡ cs)) ∥₁
+module _ {ℓ} (runner : Runner {ℓ}) (CanPass : Record → Type ℓ) (going : Going runner CanPass) where
+  calls-run : (cs : List Call) → Bytes cs → (r : Record) → CanPass r → ∥ ((es : List Event) × (q : Record) × Calls runner r es q × (map callOf es ≡ cs)) ∥₁
   unfolding Bytes callOf
   calls-run [] b r h = ∣ ([], r, none, refl) ∣₁
   calls-run (Call.next ∷ cs) b r h =
@@ -60,7 +64,7 @@ module _ {ℓ} (library : Library {ℓ}) (CanPass : Record → Type ℓ) (going 
       ∥∥₁-map (calls-run cs (b .1) (c .0 .kept) k) (λ w.
       (reported x (c .0 .answer) ∷ w .0, w .1, then-report x (c .0) (c .1) (w .2), ap (λ (l : List Call). Call.report x ∷ l) (w .3)))))
 
-  pub lists-run : ListsRun library
+  pub lists-run : ListsRun runner
   lists-run bytes l load cs b = ∥∥₁-elim (going .load-passes bytes l load) ∥∥₁-prop (λ h. calls-run cs b (l .kept) h)
 
 -- Reports of some replies, and then "Next".
@@ -73,27 +77,27 @@ unfolding EntriesFit Bytes reportsOf
 reports-bytes [] f = tt
 reports-bytes (e ∷ h) f = (omega (arith, f .1), reports-bytes h (f .2))
 
-module _ {ℓ} (library : Library {ℓ}) (contracts : Contracts library) (bytes : List ℕ) (sheet : Sheet) (read : reading bytes ≡ accepted sheet) where
+module _ {ℓ} (runner : Runner {ℓ}) (contracts : Contracts runner) (bytes : List ℕ) (sheet : Sheet) (read : reading bytes ≡ accepted sheet) where
   -- The record that belongs to the sheet and to replies of a run.
   module _ (rs : List ℕ) (run : RepliesOfRun sheet rs) where
-    told-is : (t : AfterNext) → library .tells (recordOf bytes rs) t → toldOf (t .answer) ≡ accepted (told sheet rs)
+    told-is : (t : AfterNext) → runner .tells (recordOf bytes rs) t → toldOf (t .answer) ≡ accepted (told sheet rs)
     told-is t c = contracts .next-contract (recordOf bytes rs) t c .0 ∙ next-held bytes sheet read rs run
 
-    told-end-is : (t : AfterNext) → library .tells (recordOf bytes rs) t → (b : Bool) → (t .answer ≡ Told.End b) ↔ (told sheet rs ≡ at-end b)
+    told-end-is : (t : AfterNext) → runner .tells (recordOf bytes rs) t → (b : Bool) → (t .answer ≡ Told.End b) ↔ (told sheet rs ≡ at-end b)
     unfolding toldOf
     told-end-is t c b = (
       λ e. let k : accepted (at-end b) ≡ accepted (told sheet rs) = sym (ap toldOf e) ∙ told-is t c in cc,
       λ e. told-one (t .answer) (Told.End b) (told-is t c ∙ ap accepted e),
     )
 
-    told-act-is : (t : AfterNext) → library .tells (recordOf bytes rs) t → (a : ℕ) → (t .answer ≡ Told.Act a) ↔ (told sheet rs ≡ to-do a)
+    told-act-is : (t : AfterNext) → runner .tells (recordOf bytes rs) t → (a : ℕ) → (t .answer ≡ Told.Act a) ↔ (told sheet rs ≡ to-do a)
     unfolding toldOf
     told-act-is t c a = (
       λ e. let k : accepted (to-do a) ≡ accepted (told sheet rs) = sym (ap toldOf e) ∙ told-is t c in cc,
       λ e. told-one (t .answer) (Told.Act a) (told-is t c ∙ ap accepted e),
     )
 
-    module _ (x : ℕ) (t : AfterReport) (c : library .reports (recordOf bytes rs) x t) where
+    module _ (x : ℕ) (t : AfterReport) (c : runner .reports (recordOf bytes rs) x t) where
       answered : reportedOf (t .answer) ≡ withoutValue (added sheet rs x)
       answered = contracts .report-contract (recordOf bytes rs) x t c .0 ∙ ap withoutValue (report-held bytes sheet read rs run x)
 
@@ -120,7 +124,7 @@ module _ {ℓ} (library : Library {ℓ}) (contracts : Contracts library) (bytes 
           ∙ after-refused bytes sheet read rs run x (rejectionNumber why) (was-refused (added sheet rs x) (rejectionNumber why) (sym (ap reportedOf e) ∙ answered))
 
     -- What is claimed of the calls on it.
-    after-at : AfterCalls (library .tells) (library .reports) sheet rs (recordOf bytes rs)
+    after-at : AfterCalls runner sheet rs (recordOf bytes rs)
     after-at = record {
       accepts = accepts-run;
       tells-end = λ t c. (
@@ -136,7 +140,7 @@ module _ {ℓ} (library : Library {ℓ}) (contracts : Contracts library) (bytes 
       goes-on = λ t c a e. told-goes-on bytes sheet read rs a run (told-act-is t c a .0 e);
     }
       where
-        go : (t : AfterNext) → library .tells (recordOf bytes rs) t → ((h : History) (states : List ℕ) → Full sheet h states → replies h ≡ rs → ⊥) → (k : Telling) → told sheet rs ≡ k
+        go : (t : AfterNext) → runner .tells (recordOf bytes rs) t → ((h : History) (states : List ℕ) → Full sheet h states → replies h ≡ rs → ⊥) → (k : Telling) → told sheet rs ≡ k
             → (a : ℕ) × (t .answer ≡ Told.Act a) × ((h : History) (e : Entry) (g : History) (states : List ℕ) → Following sheet (h ++ (e ∷ g)) states → replies h ≡ rs → e .action ≡ a)
         go t c unfull (to-do a) e = (a, told-act-is t c a .1 e, told-action sheet rs a e)
         go t c unfull (at-end b) e = let w = told-end sheet rs b run e in absurd (unfull (w .0) (w .1) (w .2) (w .3))
@@ -146,20 +150,20 @@ module _ {ℓ} (library : Library {ℓ}) (contracts : Contracts library) (bytes 
   Belongs rs r = (r ≡ recordOf bytes rs) × RepliesOfRun sheet rs
 
   abbrev CallsFrom : Record → List Event → Record → Type ℓ
-  CallsFrom = Calls (library .tells) (library .reports)
+  CallsFrom = Calls runner
 
-  on-record : (rs : List ℕ) (r : Record) → Belongs rs r → (x : ℕ) (t : AfterReport) → library .reports r x t → library .reports (recordOf bytes rs) x t
-  on-record rs r b x t c = subst (λ (q : Record). library .reports q x t) (b .0) c
+  on-record : (rs : List ℕ) (r : Record) → Belongs rs r → (x : ℕ) (t : AfterReport) → runner .reports r x t → runner .reports (recordOf bytes rs) x t
+  on-record rs r b x t c = subst (λ (q : Record). runner .reports q x t) (b .0) c
 
-  next-belongs : (rs : List ℕ) (r : Record) → Belongs rs r → (t : AfterNext) → library .tells r t → Belongs rs (t .kept)
+  next-belongs : (rs : List ℕ) (r : Record) → Belongs rs r → (t : AfterNext) → runner .tells r t → Belongs rs (t .kept)
   next-belongs rs r b t c = (contracts .next-contract r t c .1 ∙ b .0, b .1)
 
-  added-belongs : (rs : List ℕ) (r : Record) → Belongs rs r → (x : ℕ) (t : AfterReport) → library .reports r x t → t .answer ≡ Reported.Accepted → Belongs (rs ++ (x ∷ [])) (t .kept)
+  added-belongs : (rs : List ℕ) (r : Record) → Belongs rs r → (x : ℕ) (t : AfterReport) → runner .reports r x t → t .answer ≡ Reported.Accepted → Belongs (rs ++ (x ∷ [])) (t .kept)
   added-belongs rs r b x t c e =
       let d = on-record rs r b x t c in
       (kept-added rs (b .1) x t d e, accepts-run rs (b .1) x t d .0 e)
 
-  refused-belongs : (rs : List ℕ) (r : Record) → Belongs rs r → (x : ℕ) (t : AfterReport) → library .reports r x t → (why : Rejection) → t .answer ≡ Reported.Refused why → Belongs rs (t .kept)
+  refused-belongs : (rs : List ℕ) (r : Record) → Belongs rs r → (x : ℕ) (t : AfterReport) → runner .reports r x t → (why : Rejection) → t .answer ≡ Reported.Refused why → Belongs rs (t .kept)
   refused-belongs rs r b x t c why e = (kept-refused rs (b .1) x t (on-record rs r b x t c) why e, b .1)
 
   through : (rs : List ℕ) (r : Record) → Belongs rs r → (es : List Event) (q : Record) → CallsFrom r es q → Belongs (rs ++ acceptedIn es) q
@@ -182,18 +186,18 @@ module _ {ℓ} (library : Library {ℓ}) (contracts : Contracts library) (bytes 
   unfolding AcceptedReplies AcceptedBehind
   none-yet = accepted-replies sheet (starts bytes sheet read) [] .0 tt
 
-  loaded-belongs : (l : AfterLoad) → library .loads bytes l → Belongs [] (l .kept)
+  loaded-belongs : (l : AfterLoad) → runner .loads bytes l → Belongs [] (l .kept)
   loaded-belongs l c = (contracts .load-contract bytes l c .1 ∙ loaded-record bytes sheet read, none-yet)
 
-  pub after-lists : (l : AfterLoad) → library .loads bytes l → (es : List Event) (q : Record) → CallsFrom (l .kept) es q
-      → AfterCalls (library .tells) (library .reports) sheet (acceptedIn es) q
+  pub after-lists : (l : AfterLoad) → runner .loads bytes l → (es : List Event) (q : Record) → CallsFrom (l .kept) es q
+      → AfterCalls runner sheet (acceptedIn es) q
   after-lists l c es q calls =
       let b = through [] (l .kept) (loaded-belongs l c) es q calls in
-      subst (AfterCalls (library .tells) (library .reports) sheet (acceptedIn es)) (sym (b .0)) (after-at (acceptedIn es) (b .1))
+      subst (AfterCalls runner sheet (acceptedIn es)) (sym (b .0)) (after-at (acceptedIn es) (b .1))
 
   -- Where replies are accepted one after the other, reporting them and asking "Next" is a list of calls in which they are accepted.
   all-added : (before rs : List ℕ) (r : Record) → Belongs before r → AcceptedBehind sheet before rs → (es : List Event) (q : Record) → CallsFrom r es q → map callOf es ≡ reportsOf rs
-      → (fs : List Event) × (p : Record) × CallsFrom r fs p × ((t : AfterNext) × library .tells p t) × (acceptedIn fs ≡ rs)
+      → (fs : List Event) × (p : Record) × CallsFrom r fs p × ((t : AfterNext) × runner .tells p t) × (acceptedIn fs ≡ rs)
   unfolding AcceptedBehind acceptedIn reportsOf callOf
   all-added before [] r b a es q none e = let z : _≡_ {A = ℕ} 0 1 = cc in absurd (omega arith)
   all-added before [] r b a es q (then-next t c rest) e = ([], r, none, (t, c), refl)
@@ -213,18 +217,18 @@ module _ {ℓ} (library : Library {ℓ}) (contracts : Contracts library) (bytes 
       )
 
   -- No run fails exactly when "Next" says after no list that the goal fails.
-  pub none-told : ListsRun library → (l : AfterLoad) → library .loads bytes l
-      → ((h : History) (run : List ℕ) → Failing sheet h run → ⊥) ↔ ((es : List Event) (q : Record) → CallsFrom (l .kept) es q → (t : AfterNext) → library .tells q t → t .answer ≡ Told.End false → ⊥)
+  pub none-told : ListsRun runner → (l : AfterLoad) → runner .loads bytes l
+      → ((h : History) (run : List ℕ) → Failing sheet h run → ⊥) ↔ ((es : List Event) (q : Record) → CallsFrom (l .kept) es q → (t : AfterNext) → runner .tells q t → t .answer ≡ Told.End false → ⊥)
   unfolding Failing Full AcceptedReplies RepliesOfRun
   none-told runs l load = (there, back)
     where
-      there : ((h : History) (run : List ℕ) → Failing sheet h run → ⊥) → (es : List Event) (q : Record) → CallsFrom (l .kept) es q → (t : AfterNext) → library .tells q t → t .answer ≡ Told.End false → ⊥
+      there : ((h : History) (run : List ℕ) → Failing sheet h run → ⊥) → (es : List Event) (q : Record) → CallsFrom (l .kept) es q → (t : AfterNext) → runner .tells q t → t .answer ≡ Told.End false → ⊥
       there none-fails es q calls t c e =
           let a = after-lists l load es q calls in
           let w = a .tells-end t c .0 (false, e) in
           none-fails (w .0) (w .1) (w .2, λ g. let k : Told.End true ≡ Told.End false = sym (a .tells-goal t c (w .0) (w .1) (w .2) (w .3) .1 g) ∙ e in let z : _≡_ {A = ℕ} 0 1 = cc in absurd (omega arith))
 
-      back : ((es : List Event) (q : Record) → CallsFrom (l .kept) es q → (t : AfterNext) → library .tells q t → t .answer ≡ Told.End false → ⊥) → (h : History) (run : List ℕ) → Failing sheet h run → ⊥
+      back : ((es : List Event) (q : Record) → CallsFrom (l .kept) es q → (t : AfterNext) → runner .tells q t → t .answer ≡ Told.End false → ⊥) → (h : History) (run : List ℕ) → Failing sheet h run → ⊥
       back never h run f =
           ∥∥₁-elim (runs bytes l load (reportsOf (replies h)) (reports-bytes h (entries-fit bytes sheet read h run (f .0 .0)))) (λ a b. absurd a) (λ w.
           let x = all-added [] (replies h) (l .kept) (loaded-belongs l load) (accepted-replies sheet (starts bytes sheet read) (replies h) .1 (h, run, f .0 .0, refl)) (w .0) (w .1) (w .2) (w .3) in
