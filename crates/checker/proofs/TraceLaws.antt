@@ -1,13 +1,13 @@
 -- What a trace shows by a routine's tables, read two bytes at a time. Assumes nothing.
-use Prim.Native.Nat.{ℕ, suc, _+_, _/_, _%_, _<_, _≤_}
+use Prim.Native.Nat.{ℕ, _+_, _/_, _%_, _<_, _≤_}
 use mathlib.Core.Path.{_≡_, refl, sym, ap, _∙_}
 use mathlib.Core.List.{List, [], _∷_}
 use mathlib.Core.Bool.{Bool, true, false, _&&_}
 use native.Mathlib.Omega.{arith}
 use lib.Dec.{eqb}
 use lib.ListN.{length, getD, drop, drop-of-length-le}
-use lib.Seq.{drop-cons}
 use borrow.Author.Tests.{eq-eqb, ne-eqb, le-leb, lt-leb}
+use Rattle.lists.proofs.ListLaws.{drop-next}
 use Rattle.states.specs.declared.States.{States}
 use Rattle.states.specs.Sets.{member, setOf}
 use Rattle.semantics.specs.Checker.{isTraceLength}
@@ -34,9 +34,6 @@ module _ (l : ℕ) where
   trace-length odd h = rw (eq-eqb (l % 2) 1 (omega arith), le-leb l 129 h)
 
 -- What stands from a place on.
-drop-next : (xs : List ℕ) (k : ℕ) → k < length xs → drop k xs ≡ getD xs k 0 ∷ drop (k + 1) xs
-drop-next xs k l = let e : suc k ≡ k + 1 = omega arith in drop-cons xs k 0 l ∙ ap (λ (v : ℕ). getD xs k 0 ∷ drop v xs) e
-
 drop-two : (xs : List ℕ) (k : ℕ) → k + 1 < length xs → drop k xs ≡ getD xs k 0 ∷ getD xs (k + 1) 0 ∷ drop (k + 2) xs
 drop-two xs k l =
     let e : k + 1 + 1 ≡ k + 2 = omega arith in

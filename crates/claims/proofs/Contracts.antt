@@ -17,7 +17,7 @@ use Rattle.verifier.specs.declared.verdict.Verdict.{Verdict}
 use Rattle.verifier.specs.Answers.{answerOf as verifiedOf}
 use Rattle.checker.specs.declared.Checked.{Checked}
 use Rattle.checker.specs.Shown.{answerOf as checkedOf}
-use Rattle.runner.proofs.ListLaws.{Contracts as RunnerContracts}
+use Rattle.runner.proofs.ListLaws.{RunnerContracts}
 use Rattle.claims.specs.Demands.{Library}
 
 pub record Contracts {ℓ} (library : Library {ℓ}) : Type ℓ where

@@ -53,7 +53,8 @@ use Rattle.claims.specs.Demands.{Atom, Condition, Tested, Library, Prepa
 use Rattle.claims.proofs.Contracts.{Contracts}
 use Rattle.claims.proofs.NumberLaws.{verdict-one, check-one as checked-one, prepared-one}
 use Rattle.runner.proofs.AnswerLaws.{told-one, reported-one}
-use Rattle.runner.proofs.ListLaws.{ListsRun, after-lists, none-told}
+use Rattle.runner.specs.Calls.{ListsRun}
+use Rattle.runner.proofs.ListLaws.{after-lists, none-told}
 
 -- The checker, by the sheet's reading.
 checked-refused : (shown : List ℕ) (x : Answer Sheet) (k : ℕ) → refused k ≡ checkedFor shown x → x ≡ refused k

@@ -6,9 +6,13 @@ use prog.Model.{Model}
 use contract.Running.{GhostRules}
 use Rattle.claims.specs.Demands.{Library, Callable, Demands}
 use Rattle.claims.proofs.Contracts.{Contracts}
-use Rattle.runner.proofs.ListLaws.{ListsRun, lists-run}
+use Rattle.runner.specs.Calls.{ListsRun}
+use Rattle.runner.proofs.ListLaws.{lists-run}
 use Rattle.claims.proofs.DemandLaws.{demand1, demand2, demand3}
-use Rattle.claims.proofs.Runs.{CanRead, ReadRan, read-ran, read-ends, CanPrepare, PrepareRan, prepare-ran, prepare-ends, CanSettle, SettleRan, settle-ran, settle-ends, CanStep, StepRan, step-ran, step-ends, CanKnown, KnownRan, known-ran, known-ends, CanVerify, VerifyRan, verify-ran, verify-ends, CanCheck, CheckRan, check-ran, check-ends}
+use Rattle.claims.proofs.Runs.{CanRead, ReadRan, read-ran, read-ends, CanPrepare, PrepareRan, prepare-ran, prepare-ends, CanSettle, SettleRan, settle-ran, settle-ends, CanStep, StepRan, step-ran, step-ends, CanKnown, KnownRan, known-ran, known-ends, CanCheck, CheckRan, check-ran, check-ends}
+use Rattle.claims.proofs.MemoryRuns.{CanVerify, VerifyRan, verify-ran, verify-ends}
+use Rattle.claims.proofs.TableRuns.{prepares-any, settles-any, steps-any, knows-any}
+use Rattle.claims.proofs.StartRuns.{reads-any, verifies-any, checks-any, loads-any, passes-any}
 use Rattle.claims.proofs.RunnerRuns.{CanPass, CanLoad, load-ends, next-ends, report-ends, ran, ran-contracts, ran-going}
 
 module _ {M : Type 1} (𝓤 : URA M) (H : Heap 𝓤) (𝓜 : Model 𝓤 H) (𝓖 : GhostRules 𝓤 H) where
@@ -66,6 +70,15 @@ module _ {M : Type 1} (𝓤 : URA M) (H : Heap 𝓤) (𝓜 : Model 𝓤 H) (𝓖
       load-ends = load-ends 𝓤 H 𝓜 𝓖;
       next-ends = next-ends 𝓤 H 𝓜 𝓖;
       report-ends = report-ends 𝓤 H 𝓜 𝓖;
+      reads-any = reads-any 𝓤 H 𝓜 𝓖;
+      prepares-any = λ bytes heads nodes sets b l h n s. prepares-any 𝓤 H 𝓜 𝓖 bytes heads nodes sets b l (h .0) (h .1) (n .0) (n .1) (s .0) (s .1);
+      settles-any = λ nodes sets set at n s w l. settles-any 𝓤 H 𝓜 𝓖 nodes sets set at (n .0) (n .1) (s .0) (s .1) w l;
+      steps-any = λ heads sets set a r h s w l m. steps-any 𝓤 H 𝓜 𝓖 heads sets set a r (h .0) (h .1) (s .0) (s .1) w l m;
+      knows-any = λ sets k set s l w. knows-any 𝓤 H 𝓜 𝓖 sets k set (s .0) (s .1) l w;
+      verifies-any = verifies-any 𝓤 H 𝓜 𝓖;
+      checks-any = checks-any 𝓤 H 𝓜 𝓖;
+      loads-any = loads-any 𝓤 H 𝓜 𝓖;
+      passes-any = passes-any 𝓤 H 𝓜 𝓖;
       lists-run = runs;
     };
     demand1 = demand1 run contracts;

@@ -8,6 +8,8 @@ pub mod Lowered
 pub mod SetLaws
 pub mod Runs
 pub mod RunnerRuns
-pub mod Demands
 pub mod MemoryRuns
 pub mod StartRuns
+pub mod TableRuns
+pub mod Demands
+pub mod ClosedRuns

@@ -56,7 +56,7 @@ use Rattle.runner.proofs.kept.AfterReport.Laws as after-report-laws
 head-is : {v u : Val} → _≡_ {A = List Val} (v ∷ []) (u ∷ []) → v ≡ u
 head-is e = cc
 
-pub one-of : (R : RattleType) (low : Lowered R) → ((a b : R .Denot) → low .lowered a ≡ low .lowered b → a ≡ b) → Fixes R (Is R) (λ (a : R .Denot). a)
+one-of : (R : RattleType) (low : Lowered R) → ((a b : R .Denot) → low .lowered a ≡ low .lowered b → a ≡ b) → Fixes R (Is R) (λ (a : R .Denot). a)
 one-of R low apart a b vs p q = apart a b (head-is (sym (low .val-is a vs p) ∙ low .val-is b vs q))
 
 unlike : {A : Type 0} → _≡_ {A = ℕ} 0 1 → A

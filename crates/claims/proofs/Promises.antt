@@ -34,13 +34,13 @@ use Rattle.verifier.proofs.verify as verify
 use Rattle.verifier.proofs.verify.Reads as verify-reads
 use Rattle.checker.proofs.check as check
 use Rattle.checker.proofs.check.Reads as check-reads
-use Rattle.runner.proofs.Promises.{promised as runner-promised, contracts as runner-contracts, lists-run-promised}
+use Rattle.runner.proofs.Promises.{promised-runner, runner-contracts, lists-run-promised}
 use Rattle.claims.specs.Demands.{Library, Demand1, Demand2, Demand3}
 use Rattle.claims.proofs.Contracts.{Contracts}
 use Rattle.claims.proofs.DemandLaws.{demand1, demand2, demand3}
 
 -- `reader::read` of a lent sheet.
-abbrev pub ReadMay : (bytes : List ℕ) → Said → Type 0
+abbrev ReadMay : (bytes : List ℕ) → Said → Type 0
 ReadMay bytes r = (κs : Lfts 1) × (a : Args read.signature κs) × (ws : Lasts read.ended κs a) × (now (a .0) ≡ bytes) × read-reads.Learnt κs a r (atExit read.ended κs a ws)
 
 -- `routine::prepare` of a lent sheet in lent memory.
@@ -52,28 +52,28 @@ PrepareMay bytes heads nodes sets r heads′ nodes′ sets′ =
     × prepare-reads.Learnt κs a r (atExit prepare.ended κs a ws)
 
 -- `progression::settle`, `step` and `known` on lent tables.
-abbrev pub SettleMay : (nodes sets : List ℕ) → States → (at : ℕ) → Place → Type 0
+abbrev SettleMay : (nodes sets : List ℕ) → States → (at : ℕ) → Place → Type 0
 SettleMay nodes sets set at r =
     (κs : Lfts 2) × (a : Args settle.signature κs) × (ws : Lasts settle.ended κs a) × (now (a .0) ≡ nodes) × (now (a .1 .0) ≡ sets) × (a .1 .1 .0 ≡ set) × (a .1 .1 .1 .0 ≡ at)
     × settle-reads.Learnt κs a r (atExit settle.ended κs a ws)
 
-abbrev pub StepMay : (heads sets : List ℕ) → States → (action reply : ℕ) → States → Type 0
+abbrev StepMay : (heads sets : List ℕ) → States → (action reply : ℕ) → States → Type 0
 StepMay heads sets set action reply r =
     (κs : Lfts 2) × (a : Args step.signature κs) × (ws : Lasts step.ended κs a)
     × (now (a .0) ≡ heads) × (now (a .1 .0) ≡ sets) × (a .1 .1 .0 ≡ set) × (a .1 .1 .1 .0 ≡ action) × (a .1 .1 .1 .1 .0 ≡ reply) × step-reads.Learnt κs a r (atExit step.ended κs a ws)
 
-abbrev pub KnownMay : (sets : List ℕ) (k : ℕ) → States → Bool → Type 0
+abbrev KnownMay : (sets : List ℕ) (k : ℕ) → States → Bool → Type 0
 KnownMay sets k set r =
     (κs : Lfts 1) × (a : Args known.signature κs) × (ws : Lasts known.ended κs a) × (now (a .0) ≡ sets) × (a .1 .0 ≡ k) × (a .1 .1 .0 ≡ set) × known-reads.Learnt κs a r (atExit known.ended κs a ws)
 
 -- `verifier::verify` with a lent sheet, a budget and lent trace memory.
-abbrev pub VerifyMay : (bytes : List ℕ) (budget : ℕ) (old : List ℕ) → Verdict → (memory : List ℕ) → Type 0
+abbrev VerifyMay : (bytes : List ℕ) (budget : ℕ) (old : List ℕ) → Verdict → (memory : List ℕ) → Type 0
 VerifyMay bytes budget old r memory =
     (κs : Lfts 2) × (a : Args verify.signature κs) × (ws : Lasts verify.ended κs a)
     × (now (a .0) ≡ bytes) × (a .1 .0 ≡ budget) × (now (a .1 .1 .0) ≡ old) × (now (atExit verify.ended κs a ws .1 .1 .0) ≡ memory) × verify-reads.Learnt κs a r (atExit verify.ended κs a ws)
 
 -- `checker::check` of a lent sheet and a lent trace.
-abbrev pub CheckMay : (bytes shown : List ℕ) → Checked → Type 0
+abbrev CheckMay : (bytes shown : List ℕ) → Checked → Type 0
 CheckMay bytes shown r =
     (κs : Lfts 2) × (a : Args check.signature κs) × (ws : Lasts check.ended κs a) × (now (a .0) ≡ bytes) × (now (a .1 .0) ≡ shown) × check-reads.Learnt κs a r (atExit check.ended κs a ws)
 
@@ -87,7 +87,7 @@ promised = record {
   knows = KnownMay;
   verifies = VerifyMay;
   checks = CheckMay;
-  runner = runner-promised;
+  runner = promised-runner;
 }
 
 pub contracts : Contracts promised

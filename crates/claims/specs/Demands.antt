@@ -1,8 +1,8 @@
 -- The demands, sentence by sentence, as statements about calls of the library's functions.
-use Prim.Native.Nat.{ℕ, _+_, _*_, _≤_, _<_}
+use Prim.Native.Nat.{ℕ, _+_, _*_, _^_, _≤_, _<_}
 use mathlib.Core.Path.{_≡_}
 use mathlib.Core.Logic.{_⊎_, _↔_}
-use mathlib.Core.List.{List, [], _∷_, _++_, map}
+use mathlib.Core.List.{List, [], _∷_, _++_}
 use mathlib.Core.Bool.{Bool, true, false}
 use lib.ListN.{length, take, drop}
 use Rattle.states.specs.declared.States.{States}
@@ -34,7 +34,7 @@ use Rattle.runner.specs.declared.kept.AfterNext.{AfterNext}
 use Rattle.runner.specs.declared.kept.AfterReport.{AfterReport}
 use Rattle.runner.specs.Records.{loaded, nextOn, reportOn, recordAfter}
 use Rattle.runner.specs.Answers.{toldOf, reportedOf}
-use Rattle.runner.specs.Calls.{Call, Event, callOf, Bytes, acceptedIn, Runner, Calls, AfterCalls}
+use Rattle.runner.specs.Calls.{Event, acceptedIn, Runner, Calls, ListsRun, AfterCalls}
 
 -- An objective formula is that of an atom, "known" or "not known", of an epistemic formula; an epistemic formula is a condition of a program.
 unfoldable pub Atom : Objective → Epistemic → Type 0
@@ -61,6 +61,34 @@ pub record Library {ℓ} : Type (ℓ + 1) where
   pub verifies : (bytes : List ℕ) (budget : ℕ) (old : List ℕ) → Verdict → (memory : List ℕ) → Type ℓ
   pub checks : (bytes shown : List ℕ) → Checked → Type ℓ
   pub runner : Runner {ℓ}
+
+-- Numbers, bytes, tables, a set of states and a record of the machine's sizes.
+unfoldable pub AllUnder : (m : ℕ) → List ℕ → Type 0
+AllUnder m [] = Unit {0}
+AllUnder m (x ∷ xs) = (x < m) × AllUnder m xs
+
+abbrev pub AllBytes : List ℕ → Type 0
+AllBytes xs = AllUnder 256 xs
+
+abbrev pub HeadsFit : List ℕ → Type 0
+HeadsFit heads = (length heads ≡ 3 * headMost) × AllUnder (2 ^ 16) heads
+
+abbrev pub NodesFit : List ℕ → Type 0
+NodesFit nodes = (length nodes ≡ 4 * nodeMost) × AllUnder (2 ^ 16) nodes
+
+abbrev pub SetsFit : List ℕ → Type 0
+SetsFit sets = (length sets ≡ 4 * setMost) × AllUnder (2 ^ 64) sets
+
+abbrev pub WordsFit : States → Type 0
+WordsFit set = (set .w0 < 2 ^ 64) × (set .w1 < 2 ^ 64) × (set .w2 < 2 ^ 64) × (set .w3 < 2 ^ 64)
+
+pub record RecordFits (r : Record) : Type 0 where
+  pub sheet-long : length (r .sheet) ≡ 1024
+  pub sheet-bytes : AllBytes (r .sheet)
+  pub len-fits : r .len < 2 ^ 64
+  pub replies-long : length (r .replies) ≡ 64
+  pub replies-bytes : AllBytes (r .replies)
+  pub count-fits : r .count < 2 ^ 64
 
 -- The values with which each function can be called: of lent memory, what it holds; of a record, `can-pass`. (A reply is a byte.)
 pub record Callable {ℓ} : Type (ℓ + 1) where
@@ -112,9 +140,19 @@ module _ {ℓ} (library : Library {ℓ}) where
     pub load-ends : (bytes : List ℕ) → callable .can-load bytes → ∥ ((l : AfterLoad) × library .runner .loads bytes l) ∥₁
     pub next-ends : (r : Record) → callable .can-pass r → ∥ ((t : AfterNext) × library .runner .tells r t) ∥₁
     pub report-ends : (r : Record) (x : ℕ) → x < 256 → callable .can-pass r → ∥ ((t : AfterReport) × library .runner .reports r x t) ∥₁
+    -- There are these calls: whatever the bytes, the tables and the record, damaged or not, in some memory the call can be made.
+    pub reads-any : (bytes : List ℕ) → AllBytes bytes → length bytes < 2 ^ 63 → ∥ callable .can-read bytes ∥₁
+    pub prepares-any : (bytes heads nodes sets : List ℕ) → AllBytes bytes → length bytes < 2 ^ 63 → HeadsFit heads → NodesFit nodes → SetsFit sets → ∥ callable .can-prepare bytes heads nodes sets ∥₁
+    pub settles-any : (nodes sets : List ℕ) (set : States) (at : ℕ) → NodesFit nodes → SetsFit sets → WordsFit set → at < 2 ^ 64 → ∥ callable .can-settle nodes sets set at ∥₁
+    pub steps-any : (heads sets : List ℕ) (set : States) (a r : ℕ) → HeadsFit heads → SetsFit sets → WordsFit set → a < 2 ^ 64 → r < 2 ^ 64 → ∥ callable .can-step heads sets set a r ∥₁
+    pub knows-any : (sets : List ℕ) (k : ℕ) (set : States) → SetsFit sets → k < 2 ^ 64 → WordsFit set → ∥ callable .can-know sets k set ∥₁
+    pub verifies-any : (bytes : List ℕ) (budget : ℕ) (old : List ℕ) → AllBytes bytes → length bytes < 2 ^ 63 → budget < 2 ^ 32 → AllBytes old → length old < 2 ^ 63
+        → ∥ callable .can-verify bytes budget old ∥₁
+    pub checks-any : (bytes shown : List ℕ) → AllBytes bytes → length bytes < 2 ^ 63 → AllBytes shown → length shown < 2 ^ 63 → ∥ callable .can-check bytes shown ∥₁
+    pub loads-any : (bytes : List ℕ) → AllBytes bytes → length bytes < 2 ^ 63 → ∥ callable .can-load bytes ∥₁
+    pub passes-any : (r : Record) → RecordFits r → ∥ callable .can-pass r ∥₁
     -- And every list of calls can be made on a record that loading returned: each returns a record with which the next can be called.
-    pub lists-run : (bytes : List ℕ) (l : AfterLoad) → library .runner .loads bytes l → (cs : List Call) → Bytes cs
-        → ∥ ((es : List Event) × (q : Record) × Calls (library .runner) (l .kept) es q × (map callOf es ≡ cs)) ∥₁
+    pub lists-run : ListsRun (library .runner)
 
   -- Demand 1, of what the calls give back.
   pub record Demand1 : Type ℓ where

@@ -5,7 +5,8 @@ use mathlib.Core.List.{List, [], _∷_, _++_, map, flatMap, headD, List·Memᴰ,
 use mathlib.Core.Logic.{_⊎_, inl, inr, ⊎-elim}
 use mathlib.Core.Bool.{Bool, true, false, not, _&&_, _||_}
 use native.Mathlib.Omega.{arith}
-use lib.ListN.{length, getD}
+use lib.ListN.{length, getD, drop}
+use lib.Seq.{drop-cons}
 use native.Mathlib.Nat.{eq-or-lt-of-le}
 use Rattle.lists.specs.Lists.{if_then_else_, upFrom, every, exists, keep, nonempty}
 
@@ -279,3 +280,7 @@ pub exists-none : {A : Type 0} (test : A → Bool) (xs : List A) → ((a : A) �
 unfolding exists
 exists-none test [] h = refl
 exists-none test (x ∷ xs) h = rw (h x (List·Memᴰ·head refl), exists-none test xs (λ a m. h a (List·Memᴰ·tail m)))
+
+-- What stands from a place of a list on.
+pub drop-next : (xs : List ℕ) (k : ℕ) → k < length xs → drop k xs ≡ getD xs k 0 ∷ drop (k + 1) xs
+drop-next xs k l = let e : suc k ≡ k + 1 = omega arith in drop-cons xs k 0 l ∙ ap (λ (v : ℕ). getD xs k 0 ∷ drop v xs) e

@@ -15,6 +15,7 @@ use Rattle.reader.specs.Truth.{isState, truth, holds}
 use Rattle.reader.specs.Format.{Answer, accepted, refused, Read, got, fault, epistemic, reading}
 use Rattle.reader.specs.Nodes.{Header, header, ofSheet}
 use Rattle.reader.specs.Answers.{numberOf, withoutValue, inTheory, table}
+use Rattle.reader.proofs.AnswerLaws.{was-accepted, was-refused}
 use Rattle.reader.specs.NodeAnswers.{headerRead}
 use Rattle.reader.specs.Standing.{Standing, ObjectiveAt, ActionsAt, ProgramAt}
 use Rattle.reader.specs.declared.refusal.Refusal.{Refusal}
@@ -252,21 +253,11 @@ module _ (bytes : List ℕ) (sheet : Sheet) (read : reading bytes ≡ accepted s
 
 -- What the reader's answer tells: a sheet that is accepted, or a refusal with which nothing is written.
 pub some-sheet : (bytes : List ℕ) → accepted tt ≡ withoutValue (reading bytes) → Acceptable bytes
-unfolding withoutValue
-some-sheet bytes e = go (reading bytes) refl e
-  where
-    go : (a : Answer Sheet) → reading bytes ≡ a → accepted tt ≡ withoutValue a → Acceptable bytes
-    go (accepted sheet) read e = record { sheet = sheet; read = read }
-    go (refused r) read e = let z : _≡_ {A = ℕ} 0 1 = cc in absurd (omega arith)
+some-sheet bytes e = let a = was-accepted (reading bytes) e in record { sheet = a .0; read = a .1 }
 
 module _ (bytes : List ℕ) (r : ℕ) (no-sheet : refused r ≡ withoutValue (reading bytes)) where
   refused-reading : reading bytes ≡ refused r
-  unfolding withoutValue
-  refused-reading = go (reading bytes) no-sheet
-    where
-      go : (a : Answer Sheet) → refused r ≡ withoutValue a → a ≡ refused r
-      go (accepted sheet) e = let z : _≡_ {A = ℕ} 0 1 = cc in absurd (omega arith)
-      go (refused q) e = let w : r ≡ q = cc in ap refused (sym w)
+  refused-reading = was-refused (reading bytes) r no-sheet
 
   pub refused-start : refused r ≡ startOf (reading bytes)
   unfolding startOf

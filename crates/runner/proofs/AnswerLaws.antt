@@ -11,32 +11,32 @@ use Rattle.runner.specs.declared.answer.Reported.{Reported}
 use Rattle.runner.specs.Answers.{toldOf, reportedOf}
 
 -- The answer of "Next" that has a meaning.
-unfoldable tellingOf : Answer Telling → Told
-tellingOf (accepted (to-do a)) = Told.Act a
-tellingOf (accepted (at-end holds)) = Told.End holds
-tellingOf (refused k) = Told.BadRecord
+unfoldable toldFor : Answer Telling → Told
+toldFor (accepted (to-do a)) = Told.Act a
+toldFor (accepted (at-end holds)) = Told.End holds
+toldFor (refused k) = Told.BadRecord
 
-telling-back : (t : Told) → tellingOf (toldOf t) ≡ t
-unfolding tellingOf toldOf
+telling-back : (t : Told) → toldFor (toldOf t) ≡ t
+unfolding toldFor toldOf
 telling-back (Told.Act a) = refl
 telling-back (Told.End holds) = refl
 telling-back Told.BadRecord = refl
 
 pub told-one : (t u : Told) → toldOf t ≡ toldOf u → t ≡ u
-told-one t u e = sym (telling-back t) ∙ ap tellingOf e ∙ telling-back u
+told-one t u e = sym (telling-back t) ∙ ap toldFor e ∙ telling-back u
 
 -- And of "Report".
-unfoldable rejectionOf : ℕ → Rejection
+unfoldable rejectionFor : ℕ → Rejection
 unfolding if_then_else_
-rejectionOf k = if eqb k 31 then Rejection.BadRecord else if eqb k 32 then Rejection.AtEnd else if eqb k 33 then Rejection.NoSuchReply else Rejection.NotPossible
+rejectionFor k = if eqb k 31 then Rejection.BadRecord else if eqb k 32 then Rejection.AtEnd else if eqb k 33 then Rejection.NoSuchReply else Rejection.NotPossible
 
-unfoldable reportOf : Answer (Unit {0}) → Reported
-unfolding rejectionOf
-reportOf (accepted u) = Reported.Accepted
-reportOf (refused k) = Reported.Refused (rejectionOf k)
+unfoldable reportedFor : Answer (Unit {0}) → Reported
+unfolding rejectionFor
+reportedFor (accepted u) = Reported.Accepted
+reportedFor (refused k) = Reported.Refused (rejectionFor k)
 
-report-back : (t : Reported) → reportOf (reportedOf t) ≡ t
-unfolding reportOf reportedOf
+report-back : (t : Reported) → reportedFor (reportedOf t) ≡ t
+unfolding reportedFor reportedOf
 report-back Reported.Accepted = refl
 report-back (Reported.Refused Rejection.BadRecord) = refl
 report-back (Reported.Refused Rejection.AtEnd) = refl
@@ -44,4 +44,4 @@ report-back (Reported.Refused Rejection.NoSuchReply) = refl
 report-back (Reported.Refused Rejection.NotPossible) = refl
 
 pub reported-one : (t u : Reported) → reportedOf t ≡ reportedOf u → t ≡ u
-reported-one t u e = sym (report-back t) ∙ ap reportOf e ∙ report-back u
+reported-one t u e = sym (report-back t) ∙ ap reportedFor e ∙ report-back u

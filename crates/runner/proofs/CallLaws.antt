@@ -53,14 +53,14 @@ report-resumed (accepted sheet) rs x qs e = (sheet, refl, go (areOfRun sheet rs)
     go false k = let z : _≡_ {A = ℕ} 0 1 = cc in absurd (omega arith)
 
 -- So it adds its reply too, and there are at most 64 replies then.
-pub report-adds : (bytes rs : List ℕ) (x : ℕ) (qs : List ℕ) → reportOf (resumed (reading bytes) rs) rs x ≡ accepted qs → (qs ≡ rs ++ (x ∷ [])) × (length (rs ++ (x ∷ [])) ≤ 64)
+report-adds : (bytes rs : List ℕ) (x : ℕ) (qs : List ℕ) → reportOf (resumed (reading bytes) rs) rs x ≡ accepted qs → (qs ≡ rs ++ (x ∷ [])) × (length (rs ++ (x ∷ [])) ≤ 64)
 report-adds bytes rs x qs e =
     let k = report-resumed (reading bytes) rs x qs e in
     let q = reported-adds (k .0) rs x qs (k .2) in
     (q, replies-most bytes (k .0) (k .1) (rs ++ (x ∷ [])) (accepted-run (k .0) rs x (k .2 ∙ ap accepted q)))
 
 -- Bytes that are all 0 are that many zeros.
-pub zeros-are : (xs : List ℕ) → areZero xs ≡ true → xs ≡ replicate {A = ℕ} (length xs) 0
+zeros-are : (xs : List ℕ) → areZero xs ≡ true → xs ≡ replicate {A = ℕ} (length xs) 0
 unfolding areZero every
 zeros-are [] e = refl
 zeros-are (b ∷ xs) e =
@@ -75,7 +75,7 @@ unfolding areZero every
 more-zeros b xs e = (both-true (eqb b 0) (areZero xs) e) .1
 
 -- A byte written where the zeros begin: the bytes before them with it, and one zero less.
-pub written-padded : (l : ℕ) (xs : List ℕ) (c x : ℕ) → length xs ≡ l → c < l → areZero (drop c xs) ≡ true → set xs c x ≡ padded l (take c xs ++ (x ∷ []))
+written-padded : (l : ℕ) (xs : List ℕ) (c x : ℕ) → length xs ≡ l → c < l → areZero (drop c xs) ≡ true → set xs c x ≡ padded l (take c xs ++ (x ∷ []))
 unfolding padded
 written-padded l xs c x e h z =
     let h′ : c < length xs = omega arith in
@@ -100,7 +100,7 @@ module _ (r : Record) where
   pub padded-count : isPadded r ≡ true → r .count ≤ 64
   padded-count h = leb-true (r .count) 64 ((both-true (leb (r .len) 1024) (leb (r .count) 64) (padded-tests h .0)) .1)
 
-  pub padded-replies : isPadded r ≡ true → areZero (drop (r .count) (r .replies)) ≡ true
+  padded-replies : isPadded r ≡ true → areZero (drop (r .count) (r .replies)) ≡ true
   padded-replies h = (both-true (areZero (drop (r .len) (r .sheet))) (areZero (drop (r .count) (r .replies))) (padded-tests h .1)) .1
 
   -- What a record holds: not padded, 31; padded, the sheet of its bytes if its replies are those of a run.

@@ -12,7 +12,7 @@ use Rattle.reader.specs.Answers.{answerOf as readOf, withoutValue}
 use Rattle.reader.proofs.AnswerLaws.{was-accepted, was-refused}
 use Rattle.semantics.specs.Runs.{Entry, History, replies, holdsAfter}
 use Rattle.semantics.specs.Routine.{Following, Full, Failing}
-use Rattle.semantics.specs.Replies.{Told as Telling, to-do, at-end, told, reported as added, AcceptedBehind, AcceptedReplies, RepliesOfRun}
+use Rattle.semantics.specs.Replies.{Told as Telling, to-do, at-end, told, reported, AcceptedBehind, AcceptedReplies, RepliesOfRun}
 use Rattle.semantics.proofs.RunLaws.{tested-holds, holds-tested}
 use Rattle.semantics.proofs.ReplyLaws.{accepted-run, run-accepted, accepted-replies, end-told, told-end, told-action}
 use Rattle.semantics.proofs.AcceptedLaws.{starts, entries-fit, EntriesFit, told-goes-on}
@@ -27,21 +27,16 @@ use Rattle.runner.specs.Records.{recordOf, loaded, nextOn, reportOn, rec
 use Rattle.runner.specs.Answers.{rejectionNumber, toldOf, reportedOf}
 use Rattle.runner.proofs.CallLaws.{reported-adds}
 use Rattle.runner.proofs.HeldLaws.{loaded-record, next-held, report-held, after-added, after-refused}
-use Rattle.runner.specs.Calls.{Call, Event, asked, reported, callOf, Bytes, acceptedIn, Runner, Calls, none, then-next, then-report, AfterCalls}
+use Rattle.runner.specs.Calls.{Call, Event, asked, replied, callOf, Bytes, acceptedIn, Runner, Calls, ListsRun, none, then-next, then-report, AfterCalls}
 use Rattle.runner.proofs.AnswerLaws.{told-one, reported-one}
 
 -- What the contracts of the three calls say.
-pub record Contracts {ℓ} (runner : Runner {ℓ}) : Type ℓ where
+pub record RunnerContracts {ℓ} (runner : Runner {ℓ}) : Type ℓ where
   pub load-contract : (bytes : List ℕ) (l : AfterLoad) → runner .loads bytes l → (readOf (l .answer) ≡ withoutValue (reading bytes)) × (l .kept ≡ loaded bytes)
   pub next-contract : (r : Record) (t : AfterNext) → runner .tells r t → (toldOf (t .answer) ≡ nextOn r) × (t .kept ≡ r)
   pub report-contract : (r : Record) (x : ℕ) (t : AfterReport) → runner .reports r x t → (reportedOf (t .answer) ≡ withoutValue (reportOn r x)) × (t .kept ≡ recordAfter r x)
 
--- Every list of calls can be made on a record that loading returned.
-abbrev pub ListsRun {ℓ} : Runner {ℓ} → Type ℓ
-ListsRun runner = (bytes : List ℕ) (l : AfterLoad) → runner .loads bytes l → (cs : List Call) → Bytes cs
-    → ∥ ((es : List Event) × (q : Record) × Calls runner (l .kept) es q × (map callOf es ≡ cs)) ∥₁
-
--- It is so where every call ends on a record that can be passed, with a record that can be.
+-- Where every call on a record that can be passed ends, with a record that can be passed, every list of calls can be made.
 pub record Going {ℓ} (runner : Runner {ℓ}) (CanPass : Record → Type ℓ) : Type ℓ where
   pub load-passes : (bytes : List ℕ) (l : AfterLoad) → runner .loads bytes l → ∥ CanPass (l .kept) ∥₁
   pub next-goes : (r : Record) → CanPass r → ∥ ((t : AfterNext) × runner .tells r t) ∥₁
@@ -62,7 +57,7 @@ module _ {ℓ} (runner : Runner {ℓ}) (CanPass : Record → Type ℓ) (going : 
       ∥∥₁-elim (going .report-goes r x (b .0) h) ∥∥₁-prop (λ c.
       ∥∥₁-elim (going .report-passes r x (c .0) (c .1)) ∥∥₁-prop (λ k.
       ∥∥₁-map (calls-run cs (b .1) (c .0 .kept) k) (λ w.
-      (reported x (c .0 .answer) ∷ w .0, w .1, then-report x (c .0) (c .1) (w .2), ap (λ (l : List Call). Call.report x ∷ l) (w .3)))))
+      (replied x (c .0 .answer) ∷ w .0, w .1, then-report x (c .0) (c .1) (w .2), ap (λ (l : List Call). Call.report x ∷ l) (w .3)))))
 
   pub lists-run : ListsRun runner
   lists-run bytes l load cs b = ∥∥₁-elim (going .load-passes bytes l load) ∥∥₁-prop (λ h. calls-run cs b (l .kept) h)
@@ -77,7 +72,7 @@ unfolding EntriesFit Bytes reportsOf
 reports-bytes [] f = tt
 reports-bytes (e ∷ h) f = (omega (arith, f .1), reports-bytes h (f .2))
 
-module _ {ℓ} (runner : Runner {ℓ}) (contracts : Contracts runner) (bytes : List ℕ) (sheet : Sheet) (read : reading bytes ≡ accepted sheet) where
+module _ {ℓ} (runner : Runner {ℓ}) (contracts : RunnerContracts runner) (bytes : List ℕ) (sheet : Sheet) (read : reading bytes ≡ accepted sheet) where
   -- The record that belongs to the sheet and to replies of a run.
   module _ (rs : List ℕ) (run : RepliesOfRun sheet rs) where
     told-is : (t : AfterNext) → runner .tells (recordOf bytes rs) t → toldOf (t .answer) ≡ accepted (told sheet rs)
@@ -98,13 +93,13 @@ module _ {ℓ} (runner : Runner {ℓ}) (contracts : Contracts runner) (bytes : L
     )
 
     module _ (x : ℕ) (t : AfterReport) (c : runner .reports (recordOf bytes rs) x t) where
-      answered : reportedOf (t .answer) ≡ withoutValue (added sheet rs x)
+      answered : reportedOf (t .answer) ≡ withoutValue (reported sheet rs x)
       answered = contracts .report-contract (recordOf bytes rs) x t c .0 ∙ ap withoutValue (report-held bytes sheet read rs run x)
 
-      was-added : t .answer ≡ Reported.Accepted → added sheet rs x ≡ accepted (rs ++ (x ∷ []))
+      was-added : t .answer ≡ Reported.Accepted → reported sheet rs x ≡ accepted (rs ++ (x ∷ []))
       unfolding reportedOf
       was-added e =
-          let a = was-accepted (added sheet rs x) (sym (ap reportedOf e) ∙ answered) in
+          let a = was-accepted (reported sheet rs x) (sym (ap reportedOf e) ∙ answered) in
           a .1 ∙ ap accepted (reported-adds sheet rs x (a .0) (a .1))
 
       accepts-run : (t .answer ≡ Reported.Accepted) ↔ RepliesOfRun sheet (rs ++ (x ∷ []))
@@ -121,7 +116,7 @@ module _ {ℓ} (runner : Runner {ℓ}) (contracts : Contracts runner) (bytes : L
       unfolding reportedOf
       kept-refused why e =
           contracts .report-contract (recordOf bytes rs) x t c .1
-          ∙ after-refused bytes sheet read rs run x (rejectionNumber why) (was-refused (added sheet rs x) (rejectionNumber why) (sym (ap reportedOf e) ∙ answered))
+          ∙ after-refused bytes sheet read rs run x (rejectionNumber why) (was-refused (reported sheet rs x) (rejectionNumber why) (sym (ap reportedOf e) ∙ answered))
 
     -- What is claimed of the calls on it.
     after-at : AfterCalls runner sheet rs (recordOf bytes rs)
@@ -174,12 +169,12 @@ module _ {ℓ} (runner : Runner {ℓ}) (contracts : Contracts runner) (bytes : L
       go (t .answer) refl (λ k. through (rs ++ (x ∷ [])) (t .kept) k more q rest) (λ k. through rs (t .kept) k more q rest)
     where
       go : (a : Reported) → t .answer ≡ a → (Belongs (rs ++ (x ∷ [])) (t .kept) → Belongs ((rs ++ (x ∷ [])) ++ acceptedIn more) q) → (Belongs rs (t .kept) → Belongs (rs ++ acceptedIn more) q)
-          → Belongs (rs ++ acceptedIn (reported x (t .answer) ∷ more)) q
+          → Belongs (rs ++ acceptedIn (replied x (t .answer) ∷ more)) q
       go Reported.Accepted e longer same =
-          subst (λ (qs : List ℕ). Belongs qs q) (append-assoc rs (x ∷ []) (acceptedIn more) ∙ ap (λ (a : Reported). rs ++ acceptedIn (reported x a ∷ more)) (sym e))
+          subst (λ (qs : List ℕ). Belongs qs q) (append-assoc rs (x ∷ []) (acceptedIn more) ∙ ap (λ (a : Reported). rs ++ acceptedIn (replied x a ∷ more)) (sym e))
           (longer (added-belongs rs r b x t c e))
       go (Reported.Refused why) e longer same =
-          subst (λ (qs : List ℕ). Belongs qs q) (ap (λ (a : Reported). rs ++ acceptedIn (reported x a ∷ more)) (sym e)) (same (refused-belongs rs r b x t c why e))
+          subst (λ (qs : List ℕ). Belongs qs q) (ap (λ (a : Reported). rs ++ acceptedIn (replied x a ∷ more)) (sym e)) (same (refused-belongs rs r b x t c why e))
 
   -- The record that loading returned belongs to the sheet and no replies.
   none-yet : RepliesOfRun sheet []
@@ -207,13 +202,13 @@ module _ {ℓ} (runner : Runner {ℓ}) (contracts : Contracts runner) (bytes : L
   all-added before (y ∷ rs) r b a es q (then-report {es = more} x t c rest) e =
       let same : Call.report x ≡ Call.report y = head-eq-of-cons-eq e in
       let is : y ≡ x = cc in
-      let yes : t .answer ≡ Reported.Accepted = accepts-run before (b .1) x t (on-record before r b x t c) .1 (accepted-run sheet before x (ap (λ (z : ℕ). added sheet before z) (sym is) ∙ a .0 ∙ ap (λ (z : ℕ). accepted (before ++ (z ∷ []))) is)) in
+      let yes : t .answer ≡ Reported.Accepted = accepts-run before (b .1) x t (on-record before r b x t c) .1 (accepted-run sheet before x (ap (λ (z : ℕ). reported sheet before z) (sym is) ∙ a .0 ∙ ap (λ (z : ℕ). accepted (before ++ (z ∷ []))) is)) in
       let w = all-added (before ++ (x ∷ [])) rs (t .kept) (added-belongs before r b x t c yes) (subst (λ (z : ℕ). AcceptedBehind sheet (before ++ (z ∷ [])) rs) is (a .1)) more q rest (tail-eq-of-cons-eq e) in (
-        reported x (t .answer) ∷ w .0,
+        replied x (t .answer) ∷ w .0,
         w .1,
         then-report x t c (w .2),
         w .3,
-        ap (λ (u : Reported). acceptedIn (reported x u ∷ w .0)) yes ∙ (λ i. sym is i ∷ w .4 i),
+        ap (λ (u : Reported). acceptedIn (replied x u ∷ w .0)) yes ∙ (λ i. sym is i ∷ w .4 i),
       )
 
   -- No run fails exactly when "Next" says after no list that the goal fails.

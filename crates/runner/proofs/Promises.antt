@@ -15,9 +15,9 @@ use Rattle.runner.specs.declared.kept.AfterLoad.{AfterLoad}
 use Rattle.runner.specs.declared.kept.AfterNext.{AfterNext}
 use Rattle.runner.specs.declared.kept.AfterReport.{AfterReport}
 use Rattle.runner.specs.Records.{loaded, recordAfter}
-use Rattle.runner.specs.Calls.{Event, acceptedIn, Runner, Calls, AfterCalls}
+use Rattle.runner.specs.Calls.{Event, acceptedIn, Runner, Calls, ListsRun, AfterCalls}
 use Rattle.runner.proofs.GivenLaws.{next-given, report-given}
-use Rattle.runner.proofs.ListLaws.{Contracts, Going, ListsRun, lists-run, after-lists}
+use Rattle.runner.proofs.ListLaws.{RunnerContracts, Going, lists-run, after-lists}
 use Rattle.runner.proofs.kept.Record.load as load
 use Rattle.runner.proofs.kept.Record.load.Reads as load-reads
 use Rattle.runner.proofs.kept.Record.next as next
@@ -36,18 +36,18 @@ abbrev ReportMay : Record → (reply : ℕ) → AfterReport → Type 0
 ReportMay r x t = (ws : Lasts report.ended tt (r, (x, tt))) × report-reads.Learnt tt (r, (x, tt)) t (atExit report.ended tt (r, (x, tt)) ws)
 
 -- The runner by its contracts.
-abbrev pub promised : Runner {0}
-promised = record { loads = LoadMay; tells = NextMay; reports = ReportMay }
+abbrev pub promised-runner : Runner {0}
+promised-runner = record { loads = LoadMay; tells = NextMay; reports = ReportMay }
 
-pub contracts : Contracts promised
-contracts = record {
+pub runner-contracts : RunnerContracts promised-runner
+runner-contracts = record {
   load-contract = λ bytes l c. (c .4 .0 ∙ ap (λ (b : List ℕ). withoutValue (reading b)) (c .3), c .4 .1 ∙ ap loaded (c .3));
   next-contract = λ r t c. c .1;
   report-contract = λ r x t c. c .1;
 }
 
 -- There is always an answer to "Next" and "Report" that they allow, so that every list of calls can be made.
-going : Going promised (λ (r : Record). Unit {0})
+going : Going promised-runner (λ (r : Record). Unit {0})
 going = record {
   load-passes = λ bytes l c. ∣ tt ∣₁;
   next-goes = λ r h. let a = next-given r in ∣ (record { answer = a .0; kept = r }, ((tt, tt), (a .1, refl))) ∣₁;
@@ -56,9 +56,9 @@ going = record {
   report-passes = λ r x t c. ∣ tt ∣₁;
 }
 
-pub lists-run-promised : ListsRun promised
-lists-run-promised = lists-run promised (λ (r : Record). Unit {0}) going
+pub lists-run-promised : ListsRun promised-runner
+lists-run-promised = lists-run promised-runner (λ (r : Record). Unit {0}) going
 
-pub lists-promised : (bytes : List ℕ) (sheet : Sheet) → reading bytes ≡ accepted sheet → (l : AfterLoad) → promised .loads bytes l → (es : List Event) (q : Record)
-    → Calls promised (l .kept) es q → AfterCalls promised sheet (acceptedIn es) q
-lists-promised = after-lists promised contracts
+pub lists-promised : (bytes : List ℕ) (sheet : Sheet) → reading bytes ≡ accepted sheet → (l : AfterLoad) → promised-runner .loads bytes l → (es : List Event) (q : Record)
+    → Calls promised-runner (l .kept) es q → AfterCalls promised-runner sheet (acceptedIn es) q
+lists-promised = after-lists promised-runner runner-contracts

@@ -1,13 +1,13 @@
 -- Where replies lead by a routine's tables, read one reply at a time. Assumes nothing.
-use Prim.Native.Nat.{ℕ, suc, _+_, _<_, _≤_}
+use Prim.Native.Nat.{ℕ, _+_, _<_, _≤_}
 use mathlib.Core.Path.{_≡_, refl, sym, ap, _∙_}
 use mathlib.Core.List.{List, [], _∷_}
 use mathlib.Core.Bool.{Bool, true, false, not}
 use native.Mathlib.Omega.{arith}
 use lib.Dec.{ltb}
 use lib.ListN.{length, getD, drop, drop-of-length-le}
-use lib.Seq.{drop-cons}
 use borrow.Author.Tests.{lt-ltb, le-ltb, not-true, not-false}
+use Rattle.lists.proofs.ListLaws.{drop-next}
 use Rattle.lists.specs.Lists.{if_then_else_, nonempty}
 use Rattle.states.specs.declared.States.{States}
 use Rattle.states.specs.Sets.{members}
@@ -19,10 +19,6 @@ use Rattle.runner.specs.declared.answer.Rejection.{Rejection}
 use Rattle.runner.specs.declared.answer.Reported.{Reported}
 use Rattle.runner.specs.declared.walk.Stand.{Stand}
 use Rattle.runner.specs.Walks.{standAt, goesOn, standsFrom, judged}
-
--- What stands from a place on.
-drop-next : (xs : List ℕ) (k : ℕ) → k < length xs → drop k xs ≡ getD xs k 0 ∷ drop (k + 1) xs
-drop-next xs k l = let e : suc k ≡ k + 1 = omega arith in drop-cons xs k 0 l ∙ ap (λ (v : ℕ). getD xs k 0 ∷ drop v xs) e
 
 -- One step, by whether a reply is left.
 module _ (heads nodes sets : List ℕ) (set : States) (at : ℕ) where

@@ -3,7 +3,7 @@
 use Prim.Native.Nat.{ℕ, _<_}
 use mathlib.Core.Path.{_≡_}
 use mathlib.Core.Logic.{_↔_}
-use mathlib.Core.List.{List, [], _∷_, _++_}
+use mathlib.Core.List.{List, [], _∷_, _++_, map}
 use mathlib.Core.Bool.{Bool, true}
 use Rattle.reader.specs.Syntax.{Sheet}
 use Rattle.semantics.specs.Runs.{Entry, History, replies, Holds}
@@ -23,11 +23,11 @@ pub data Call : Type 0 where
 
 pub data Event : Type 0 where
   asked : Told → Event
-  reported : (reply : ℕ) → Reported → Event
+  replied : (reply : ℕ) → Reported → Event
 
 unfoldable pub callOf : Event → Call
 callOf (asked answer) = Call.next
-callOf (reported reply answer) = Call.report reply
+callOf (replied reply answer) = Call.report reply
 
 -- The replies of a list of calls are bytes.
 unfoldable pub Bytes : List Call → Type 0
@@ -39,8 +39,8 @@ Bytes (Call.report reply ∷ cs) = (reply < 256) × Bytes cs
 unfoldable pub acceptedIn : List Event → List ℕ
 acceptedIn [] = []
 acceptedIn (asked answer ∷ es) = acceptedIn es
-acceptedIn (reported reply Reported.Accepted ∷ es) = reply ∷ acceptedIn es
-acceptedIn (reported reply (Reported.Refused why) ∷ es) = acceptedIn es
+acceptedIn (replied reply Reported.Accepted ∷ es) = reply ∷ acceptedIn es
+acceptedIn (replied reply (Reported.Refused why) ∷ es) = acceptedIn es
 
 -- What calls may give back: loading the bytes of a sheet, "Next" on a record and "Report" of a reply on a record, each an answer and a record.
 pub record Runner {ℓ} : Type (ℓ + 1) where
@@ -53,7 +53,12 @@ module _ {ℓ} (runner : Runner {ℓ}) where
   pub data Calls : Record → List Event → Record → Type ℓ where
     none : {r : Record} → Calls r [] r
     then-next : {r q : Record} {es : List Event} (t : AfterNext) → runner .tells r t → Calls (t .kept) es q → Calls r (asked (t .answer) ∷ es) q
-    then-report : {r q : Record} {es : List Event} (x : ℕ) (t : AfterReport) → runner .reports r x t → Calls (t .kept) es q → Calls r (reported x (t .answer) ∷ es) q
+    then-report : {r q : Record} {es : List Event} (x : ℕ) (t : AfterReport) → runner .reports r x t → Calls (t .kept) es q → Calls r (replied x (t .answer) ∷ es) q
+
+  -- Every list of calls can be made on a record that loading returned.
+  abbrev pub ListsRun : Type ℓ
+  ListsRun = (bytes : List ℕ) (l : AfterLoad) → runner .loads bytes l → (cs : List Call) → Bytes cs
+      → ∥ ((es : List Event) × (q : Record) × Calls (l .kept) es q × (map callOf es ≡ cs)) ∥₁
 
   -- Demand 3 of the calls that may follow on a record, after a list in which the replies rs were accepted.
   pub record AfterCalls (sheet : Sheet) (rs : List ℕ) (r : Record) : Type ℓ where
