@@ -37,6 +37,7 @@ use Rattle.semantics.proofs.CheckerLaws.{yes-failing, failing-yes}
 use Rattle.routine.specs.declared.sheet.Prepared.{Prepared}
 use Rattle.routine.specs.Memory.{setAt}
 use Rattle.routine.specs.Tables.{sheetStart, sheetHeads, nodeCells, setWords, preparedOf, startOf, prepared, atomSets, programSets, sheetActionSets, sheetSets}
+use Rattle.routine.proofs.FitLaws.{start-fits}
 use Rattle.routine.proofs.TableLaws.{noStates, Tabled, prepared-tabled, ready-sheet, refused-sheet}
 use Rattle.progression.specs.declared.place.Place.{Place}
 use Rattle.progression.specs.Machine.{settled, stepped}
@@ -49,8 +50,9 @@ use Rattle.checker.specs.Shown.{answerOf as checkedOf}
 use Rattle.runner.specs.Records.{reportOn, recordAfter}
 use Rattle.runner.specs.Answers.{rejectionNumber, reportedOf}
 use Rattle.runner.proofs.CallLaws.{refused-unchanged}
-use Rattle.claims.specs.Demands.{Atom, Condition, Tested, Library, Prepares, Carried, begin, onward, Reaches, first, further, Demand1, Demand2, Supposed, Demand3Verdict, Demand3}
+use Rattle.claims.specs.Demands.{HeadsFit, NodesFit, SetsFit, WordsFit, Atom, Condition, Tested, Library, Prepares, Carried, begin, onward, Reaches, first, further, Demand1, Demand2, Supposed, Demand3Verdict, Demand3}
 use Rattle.claims.proofs.Contracts.{Contracts}
+use Rattle.claims.proofs.SizeLaws.{heads-fit, nodes-fit, sets-fit, step-fits}
 use Rattle.claims.proofs.NumberLaws.{verdict-one, check-one as checked-one, prepared-one}
 use Rattle.runner.proofs.AnswerLaws.{told-one, reported-one}
 use Rattle.runner.specs.Calls.{ListsRun}
@@ -156,6 +158,20 @@ module _ {ℓ} (library : Library {ℓ}) (contracts : Contracts library) where
           λ l. verdict-one r Verdict.ShortMemory (v ∙ ap (λ (x : Verified). x .answer) (verified-short bytes budget old l)),
         );
   }
+
+  -- The sizes of what `prepare` and `step` give.
+  pub tables-fit : (bytes heads nodes sets : List ℕ) (p : Prepared) (heads′ nodes′ sets′ : List ℕ) → library .prepares bytes heads nodes sets p heads′ nodes′ sets′
+      → HeadsFit heads → NodesFit nodes → SetsFit sets → HeadsFit heads′ × NodesFit nodes′ × SetsFit sets′ × ((start : States) → p ≡ Prepared.Ready start → WordsFit start)
+  tables-fit bytes heads nodes sets p heads′ nodes′ sets′ call h n s =
+      let c = contracts .prepare-contract bytes heads nodes sets p heads′ nodes′ sets′ call in (
+        subst HeadsFit (sym (c .1)) (heads-fit bytes heads h),
+        subst NodesFit (sym (c .2)) (nodes-fit bytes nodes n),
+        subst SetsFit (sym (c .3)) (sets-fit bytes sets s),
+        λ start e. let q = ready-sheet (reading bytes) start (sym (ap preparedOf e) ∙ c .0) in subst WordsFit (sym (q .2)) (start-fits (q .0)),
+      )
+
+  pub steps-fit : (heads sets : List ℕ) (set : States) (a r : ℕ) (next : States) → library .steps heads sets set a r next → WordsFit next
+  steps-fit heads sets set a r next call = subst WordsFit (sym (contracts .step-contract heads sets set a r next call)) (step-fits heads sets set a r)
 
   -- The tables of a sheet, and the set carried along a history.
   module _ (bytes : List ℕ) (sheet : Sheet) (heads nodes sets : List ℕ) (start : States) (tables : Prepares library bytes sheet heads nodes sets start) where

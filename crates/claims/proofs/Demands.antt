@@ -8,7 +8,7 @@ use Rattle.claims.specs.Demands.{Library, Callable, Demands}
 use Rattle.claims.proofs.Contracts.{Contracts}
 use Rattle.runner.specs.Calls.{ListsRun}
 use Rattle.runner.proofs.ListLaws.{lists-run}
-use Rattle.claims.proofs.DemandLaws.{demand1, demand2, demand3}
+use Rattle.claims.proofs.DemandLaws.{tables-fit, steps-fit, demand1, demand2, demand3}
 use Rattle.claims.proofs.Runs.{CanRead, ReadRan, read-ran, read-ends, CanPrepare, PrepareRan, prepare-ran, prepare-ends, CanSettle, SettleRan, settle-ran, settle-ends, CanStep, StepRan, step-ran, step-ends, CanKnown, KnownRan, known-ran, known-ends, CanCheck, CheckRan, check-ran, check-ends}
 use Rattle.claims.proofs.MemoryRuns.{CanVerify, VerifyRan, verify-ran, verify-ends}
 use Rattle.claims.proofs.TableRuns.{prepares-any, settles-any, steps-any, knows-any}
@@ -79,6 +79,8 @@ module _ {M : Type 1} (𝓤 : URA M) (H : Heap 𝓤) (𝓜 : Model 𝓤 H) (𝓖
       checks-any = checks-any 𝓤 H 𝓜 𝓖;
       loads-any = loads-any 𝓤 H 𝓜 𝓖;
       passes-any = passes-any 𝓤 H 𝓜 𝓖;
+      tables-fit = tables-fit run contracts;
+      steps-fit = steps-fit run contracts;
       lists-run = runs;
     };
     demand1 = demand1 run contracts;

@@ -1,5 +1,6 @@
 pub mod NumberLaws
 pub mod Contracts
+pub mod SizeLaws
 pub mod DemandLaws
 pub mod Promises
 pub mod Machine

@@ -8,3 +8,4 @@ pub mod ProgramLaws
 pub mod RoomLaws
 pub mod PrepareLaws
 pub mod TableLaws
+pub mod FitLaws
