@@ -1,5 +1,5 @@
 -- The demands follow from the contracts. Assumes nothing.
-use Prim.Native.Nat.{ℕ, suc, _+_, _*_, _≤_, _<_}
+use Prim.Native.Nat.{ℕ, suc, _+_, _*_, _^_, _≤_, _<_}
 use mathlib.Core.Path.{_≡_, refl, sym, ap, subst, _∙_}
 use mathlib.Core.Logic.{_⊎_, inl, inr, ⊎-elim, _↔_}
 use mathlib.Core.List.{List, [], _∷_, _++_, List·Memᴰ, List·Memᴰ·head, List·Memᴰ·not-nil, List·Memᴰ·cases-cons, Memᴰ·append-left, Memᴰ·append-right}
@@ -169,6 +169,9 @@ module _ {ℓ} (library : Library {ℓ}) (contracts : Contracts library) where
         subst SetsFit (sym (c .3)) (sets-fit bytes sets s),
         λ start e. let q = ready-sheet (reading bytes) start (sym (ap preparedOf e) ∙ c .0) in subst WordsFit (sym (q .2)) (start-fits (q .0)),
       )
+
+  pub settles-fit : (nodes sets : List ℕ) (set : States) (at node a : ℕ) → library .settles nodes sets set at (Place.Act node a) → (node + 1 < 2 ^ 64) × (a < 2 ^ 64)
+  settles-fit nodes sets set at node a call = let b = contracts .settle-bounds nodes sets set at node a call in (omega (arith, b .0), omega (arith, b .1))
 
   pub steps-fit : (heads sets : List ℕ) (set : States) (a r : ℕ) (next : States) → library .steps heads sets set a r next → WordsFit next
   steps-fit heads sets set a r next call = subst WordsFit (sym (contracts .step-contract heads sets set a r next call)) (step-fits heads sets set a r)

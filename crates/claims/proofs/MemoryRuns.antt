@@ -334,7 +334,7 @@ module _ {M : Type 1} (𝓤 : URA M) (H : Heap 𝓤) (𝓜 : Model 𝓤 H) (𝓖
       subst (λ (z : Val × Memory). VerifyLeft sheet b o budget old b′ o′ F (z .0) (z .1))
       (ends-one verify-symbol.routine (pointer sheet b o ∷ vint w32 budget ∷ pointer old b′ o′ ∷ []) σ (q .0, q .1) (v, σ′) (q .2) ran) (q .3))
 
-  -- A call of `verify`: one block holds the sheet and another the trace memory, and the routine is called on slices of both; a run of it, which returned a machine value of r,
+  -- A call of `verify`: the sheet and the trace memory lie apart in memory that the caller owns, and the routine is called on slices of both; a run of it, which returned a machine value of r,
   -- and the bytes that the machine then loads from the trace memory.
   abbrev pub CanVerify : (bytes : List ℕ) (budget : ℕ) (old : List ℕ) → Type 1
   CanVerify bytes budget old =

@@ -1,6 +1,6 @@
 -- The demands, about the contracts: what a call may give back is what the contract of the function says, as it stands in the source. (`Learnt` of a function's generated
 -- `Reads` is what a caller learns from the contract; weaken a contract, and these theorems are refused.) Assumes nothing.
-use Prim.Native.Nat.{ℕ}
+use Prim.Native.Nat.{ℕ, _<_}
 use mathlib.Core.List.{List}
 use mathlib.Core.Path.{_≡_, sym, ap, _∙_}
 use mathlib.Core.Bool.{Bool}
@@ -17,7 +17,7 @@ use Rattle.semantics.specs.Checker.{checked}
 use Rattle.routine.specs.declared.sheet.Prepared.{Prepared}
 use Rattle.routine.specs.Tables.{startOf, prepared, sheetHeads, nodeCells, setWords}
 use Rattle.progression.specs.declared.place.Place.{Place}
-use Rattle.progression.specs.Machine.{knownBy, settled, stepped}
+use Rattle.progression.specs.Machine.{knownBy, settled, Inside, stepped}
 use Rattle.verifier.specs.declared.verdict.Verdict.{Verdict}
 use Rattle.checker.specs.declared.Checked.{Checked}
 use Rattle.reader.proofs.read as read
@@ -90,6 +90,11 @@ promised = record {
   runner = promised-runner;
 }
 
+-- An action node where it settles has its place and its action within bounds.
+act-bounds : (node a : ℕ) → Inside (Place.Act node a) → (node < 2048) × (a < 65536)
+unfolding Inside
+act-bounds node a i = i
+
 pub contracts : Contracts promised
 contracts = record {
   read-contract = λ bytes r c. c .4 ∙ ap (λ (b : List ℕ). withoutValue (reading b)) (c .3);
@@ -101,6 +106,7 @@ contracts = record {
         sym (c .9) ∙ l .3 ∙ (λ i. prepared setWords (reading (c .3 i)) (c .6 i)),
       );
   settle-contract = λ nodes sets set at r c. c .7 .0 ∙ (λ i. settled (c .3 i) (c .4 i) (c .5 i) (c .6 i));
+  settle-bounds = λ nodes sets set at node a c. act-bounds node a (c .7 .1);
   step-contract = λ heads sets set a q r c. c .8 ∙ (λ i. stepped (c .3 i) (c .4 i) (c .5 i) (c .6 i) (c .7 i));
   known-contract = λ sets k set r c. c .6 ∙ (λ i. knownBy (c .3 i) (c .5 i) (c .4 i));
   verify-contract = λ bytes budget old r memory c.

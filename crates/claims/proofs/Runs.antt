@@ -1,8 +1,9 @@
 -- Runs of the library's functions on the machine, for every model: a relation "a run of the function's own routine returned r", which does what the contract says (`-ran`)
--- and holds of some r from every memory in which the function may be called (`-ends`): every call ends, and no run returns anything else. Of memory that is lent to be
--- written, what the contract says that it holds at exit is taken; the machine's cells are not looked at. (`-told` is what the contract tells of a result, and `-does` that
+-- and holds of some r from every memory in which the function may be called (`-ends`): every call ends, and no run returns anything else. Of the tables that `prepare`
+-- writes, what the contract says that they hold at exit is taken; the machine's cells are not looked at. (`-told` is what the contract tells of a result, and `-does` that
 -- the runs do it.) Assumes nothing.
-use Prim.Native.Nat.{ℕ}
+use Prim.Native.Nat.{ℕ, _<_}
+use native.Mathlib.Decide.{decLt}
 use mathlib.Core.List.{List}
 use mathlib.Core.Path.{_≡_, refl}
 use mathlib.Core.Bool.{Bool, Bool-set}
@@ -91,7 +92,7 @@ module _ {M : Type 1} (𝓤 : URA M) (H : Heap 𝓤) (𝓜 : Model 𝓤 H) (𝓖
   read-ends bytes c =
       ∥∥₁-map (read-does (c .0) .0 (c .2)) (λ t. (t .0, (c .0, c .1, t .1)))
 
-  -- `routine::prepare` of a lent sheet in lent memory.
+  -- `routine::prepare` of a lent sheet in lent memory. (The tables are any that the contract allows for these arguments, with some answer q; the answer r is the run's own.)
   abbrev prepare-spec : Spec 𝓤 prepare.signature
   prepare-spec = prepare.spec 𝓤 H (𝓖 .A) (𝓜 .mem) (𝓡 .run)
 
@@ -157,6 +158,14 @@ module _ {M : Type 1} (𝓤 : URA M) (H : Heap 𝓤) (𝓜 : Model 𝓤 H) (𝓖
   settle-ran nodes sets set at r c =
       ∥∥₁-elim (settle-does (c .0) .1 r (c .5)) (place-set _ _)
       (λ t. contracts .settle-contract nodes sets set at r (c .0 .0, c .0 .3, t .0, c .1, c .2, c .3, c .4, t .1))
+
+  pub settle-bounds : (nodes sets : List ℕ) (set : States) (at node a : ℕ) → SettleRan nodes sets set at (Place.Act node a) → (node < 2048) × (a < 65536)
+  settle-bounds nodes sets set at node a c =
+      let told : ∥ ((node < 2048) × (a < 65536)) ∥₁ = ∥∥₁-map (settle-does (c .0) .1 (Place.Act node a) (c .5))
+      (λ t. contracts .settle-bounds nodes sets set at node a (c .0 .0, c .0 .3, t .0, c .1, c .2, c .3, c .4, t .1)) in (
+        elim (decLt node 2048) [ yes h ↦ h | no g ↦ absurd (∥∥₁-elim told (λ x y. absurd x) (λ t. g (t .0))) ],
+        elim (decLt a 65536) [ yes h ↦ h | no g ↦ absurd (∥∥₁-elim told (λ x y. absurd x) (λ t. g (t .1))) ],
+      )
 
   pub settle-ends : (nodes sets : List ℕ) (set : States) (at : ℕ) → CanSettle nodes sets set at → ∥ ((r : Place) × SettleRan nodes sets set at r) ∥₁
   settle-ends nodes sets set at c =

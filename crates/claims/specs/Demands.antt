@@ -48,6 +48,7 @@ Condition e end = ⊥
 Condition e (act a rest) = Condition e rest
 Condition e (branch c y z rest) = (e ≡ c) ⊎ (Condition e y ⊎ (Condition e z ⊎ Condition e rest))
 
+-- A formula that the sheet tests: of an atom of the goal or of a condition.
 unfoldable pub Tested : Objective → Sheet → Type 0
 Tested f sheet = Atom f (sheet .goal) ⊎ ((e : Epistemic) × Condition e (sheet .program) × Atom f e)
 
@@ -151,9 +152,10 @@ module _ {ℓ} (library : Library {ℓ}) where
     pub checks-any : (bytes shown : List ℕ) → AllBytes bytes → length bytes < 2 ^ 63 → AllBytes shown → length shown < 2 ^ 63 → ∥ callable .can-check bytes shown ∥₁
     pub loads-any : (bytes : List ℕ) → AllBytes bytes → length bytes < 2 ^ 63 → ∥ callable .can-load bytes ∥₁
     pub passes-any : (r : Record) → RecordFits r → ∥ callable .can-pass r ∥₁
-    -- One call leads to the next: prepared tables, the start set and the set behind a step are of these sizes again.
+    -- One call leads to the next: prepared tables, the start set, a place and its action, and the set behind a step are of these sizes again.
     pub tables-fit : (bytes heads nodes sets : List ℕ) (p : Prepared) (heads′ nodes′ sets′ : List ℕ) → library .prepares bytes heads nodes sets p heads′ nodes′ sets′
         → HeadsFit heads → NodesFit nodes → SetsFit sets → HeadsFit heads′ × NodesFit nodes′ × SetsFit sets′ × ((start : States) → p ≡ Prepared.Ready start → WordsFit start)
+    pub settles-fit : (nodes sets : List ℕ) (set : States) (at node a : ℕ) → library .settles nodes sets set at (Place.Act node a) → (node + 1 < 2 ^ 64) × (a < 2 ^ 64)
     pub steps-fit : (heads sets : List ℕ) (set : States) (a r : ℕ) (next : States) → library .steps heads sets set a r next → WordsFit next
     -- And every list of calls can be made on a record that loading returned: each returns a record with which the next can be called.
     pub lists-run : ListsRun (library .runner)

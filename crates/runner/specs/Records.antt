@@ -45,7 +45,7 @@ heldSheet r = take (r .len) (r .sheet)
 unfoldable pub heldReplies : Record → List ℕ
 heldReplies r = take (r .count) (r .replies)
 
--- 31 if "a byte past a length isn't 0, the reply count is above 64", or the length is above 1,024, for which "the record's sheet would be refused".
+-- Else 31: only zeros past the lengths, at most 64 replies, and a length of at most 1,024, above which "the record's sheet would be refused".
 unfoldable pub isPadded : Record → Bool
 unfolding areZero
 isPadded r = (leb (r .len) 1024 && leb (r .count) 64) && (areZero (drop (r .len) (r .sheet)) && areZero (drop (r .count) (r .replies)))
