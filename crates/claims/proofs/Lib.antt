@@ -10,7 +10,7 @@ pub mod SetLaws
 pub mod Runs
 pub mod RunnerRuns
 pub mod MemoryRuns
-pub mod StartRuns
 pub mod TableRuns
+pub mod StartRuns
 pub mod Demands
 pub mod ClosedRuns

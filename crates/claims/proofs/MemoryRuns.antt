@@ -22,7 +22,6 @@ use contract.Running.{Running, GhostRules, givenOf, real}
 use contract.Adequate.{Satisfies, sat-weaken, sat-⇛}
 use denote.Laws.{Is}
 use denote.Builtin.{u32}
-use denote.Plain.{uint-makes}
 use denote.Triple.Bound.{Bound}
 use denote.Triple.Spec.{Spec, tripleOf}
 use Rattle.reader.specs.Format.{reading}
@@ -45,7 +44,7 @@ use Rattle.verifier.proofs.verify.Reads as verify-reads
 use Rattle.verifier.proofs.verify.Met as verify-met
 use Rattle.verifier.proofs.verify.Symbol as verify-symbol
 use Rattle.checker.proofs.check as check
-use Rattle.claims.proofs.Memory.{slice, pointer, room-under, Holding, Live, ReadSlice, ReadAside, reader-back, WriteSlice, WriteAside, Finally, writer-back, reads-lent, writes-lent, Loads, loads-one, loads-bytes}
+use Rattle.claims.proofs.Memory.{slice, pointer, room-under, number-passed, Holding, Live, ReadSlice, ReadAside, reader-back, WriteSlice, WriteAside, Finally, writer-back, reads-lent, writes-lent, Loads, loads-one, loads-bytes}
 use Rattle.claims.proofs.Machine.{leaves}
 use Rattle.claims.proofs.Lowered.{machine-verdict-one}
 use Rattle.claims.proofs.SetLaws.{verdict-answer-set}
@@ -237,13 +236,6 @@ module _ {M : Type 1} (𝓤 : URA M) (H : Heap 𝓤) (𝓜 : Model 𝓤 H) (𝓖
   abbrev VerifyPre : (sheet : List ℕ) (b o α : ℕ) → GName → (budget : ℕ) (old : List ℕ) (b′ o′ α′ : ℕ) → GName → SProp 𝓤
   VerifyPre sheet b o α δ budget old b′ o′ α′ δ′ = tripleOf 𝓤 H (𝓖 .A) verify.signature verify-spec .pre (verify-bound sheet b o α δ budget old b′ o′ α′ δ′, tt)
 
-  abbrev number-own : ℕ → SProp 𝓤
-  number-own n = sem 𝓤 H (𝓖 .A) (u32 .own n (vint w32 n ∷ []))
-
-  -- A number is passed for nothing.
-  number-passed : (n : ℕ) → n < 2 ^ 32 → ent 𝓤 (emp 𝓤) (number-own n)
-  number-passed n h = uint-makes 𝓤 H (𝓖 .A) W w32 n (vint w32 n ∷ []) (refl, h)
-
   -- Two slices with a number between them.
   passes-number : (T O A T′ O′ A′ F B : SProp 𝓤) → ent 𝓤 (emp 𝓤) B
       → ent 𝓤 ((T′ ∗ O′) ∗ A′ ∗ (T ∗ O) ∗ A ∗ F) ((((T ∗ T′ ∗ emp 𝓤) ∗ (O ∗ B ∗ O′ ∗ emp 𝓤)) ∗ emp 𝓤) ∗ A ∗ A′ ∗ F)
@@ -285,7 +277,7 @@ module _ {M : Type 1} (𝓤 : URA M) (H : Heap 𝓤) (𝓜 : Model 𝓤 H) (𝓖
         u .0,
         u .1,
         sat-weaken 𝓤 H 𝓜 σ
-            (passes-number T O A (live (u .0)) (writing-lent 1 old b′ o′ (u .0) (u .1)) (writing-aside (length old) b′ o′ (u .0) (u .1)) F (number-own budget) (number-passed budget small))
+            (passes-number T O A (live (u .0)) (writing-lent 1 old b′ o′ (u .0) (u .1)) (writing-aside (length old) b′ o′ (u .0) (u .1)) F (sem 𝓤 H (𝓖 .A) (u32 .own budget (vint w32 budget ∷ []))) (number-passed 𝓤 H 𝓜 𝓖 w32 budget small))
             (u .2),
       )))
 

@@ -38,17 +38,17 @@ use Rattle.states.proofs.SetLaws.{Fitting}
 use Rattle.states.proofs.States as states-type
 use Rattle.states.proofs.States.Laws as states-laws
 use Rattle.claims.specs.Demands.{AllUnder, AllBytes}
-use Rattle.claims.proofs.Memory.{all-fit, slice, pointer, room-under, Holding, Live, ReadSlice, ReadAside, reads-lent}
+use Rattle.claims.proofs.Memory.{all-fit, slice, pointer, room-under, number-passed, Holding, Live, ReadSlice, ReadAside, reads-lent}
 use Rattle.claims.proofs.Runs.{CanPrepare, CanSettle, CanStep, CanKnown}
 
 -- An array of n numbers of a width, and the machine's value of a list of numbers.
-abbrev Table : Width → ℕ → RattleType
+abbrev pub Table : Width → ℕ → RattleType
 Table w n = Array (UInt w) n
 
 abbrev values : Width → List ℕ → List Val
 values w xs = map (λ x. vint w x) xs
 
-abbrev whole : Width → List ℕ → Val
+abbrev pub whole : Width → List ℕ → Val
 whole w xs = arrayVal (values w xs)
 
 -- Numbers that fit the width are elements of the array,
@@ -58,7 +58,7 @@ each-is w [] h = tt
 each-is w (x ∷ xs) h = ((refl, h .0), each-is w xs (h .1))
 
 -- and as many of them as it has are a value of it.
-table-is : (w : Width) (n : ℕ) (xs : List ℕ) → length xs ≡ n → AllUnder (2 ^ bits w) xs → Is (Table w n) xs (whole w xs ∷ [])
+pub table-is : (w : Width) (n : ℕ) (xs : List ℕ) → length xs ≡ n → AllUnder (2 ^ bits w) xs → Is (Table w n) xs (whole w xs ∷ [])
 table-is w n xs e h = (values w xs, ((refl, e), each-is w xs h))
 
 -- A reference to a table at the start of a block.
@@ -200,9 +200,6 @@ module _ {M : Type 1} (𝓤 : URA M) (H : Heap 𝓤) (𝓜 : Model 𝓤 H) (𝓖
   abbrev Number : ℕ → SProp 𝓤
   Number k = ⟦ UInt w64 .own k (vint w64 k ∷ []) ⟧
 
-  number-passed : (k : ℕ) → k < 2 ^ 64 → ent 𝓤 (emp 𝓤) (Number k)
-  number-passed k h = uint-makes 𝓤 H (𝓖 .A) W w64 k (vint w64 k ∷ []) (refl, h)
-
   abbrev Set : States → SProp 𝓤
   Set set = ⟦ states-type.the-row .own set (states-laws.lowered set ∷ []) ⟧
 
@@ -228,7 +225,7 @@ module _ {M : Type 1} (𝓤 : URA M) (H : Heap 𝓤) (𝓜 : Model 𝓤 H) (𝓖
   pub knows-any : (sets : List ℕ) (k : ℕ) (set : States) → length sets ≡ 40960 → AllUnder (2 ^ 64) sets → k < 2 ^ 64 → Fitting set → ∥ CanKnown 𝓤 H 𝓜 𝓖 sets k set ∥₁
   knows-any sets k set e h small fits =
       let Os : SProp 𝓤 = Number k ∗ Set set ∗ emp 𝓤 in
-      let had : ent 𝓤 (emp 𝓤) Os = and-passed (Number k) (Set set ∗ emp 𝓤) (number-passed k small) (and-passed (Set set) (emp 𝓤) (set-passed set fits) (id⊢ 𝓤 (emp 𝓤))) in
+      let had : ent 𝓤 (emp 𝓤) Os = and-passed (Number k) (Set set ∗ emp 𝓤) (number-passed 𝓤 H 𝓜 𝓖 w64 k small) (and-passed (Set set) (emp 𝓤) (set-passed set fits) (id⊢ 𝓤 (emp 𝓤))) in
       ∥∥₁-map (reads-more w64 40960 sets e h (emp 𝓤) Os (emp 𝓤) start (started Os had) 0)
       (λ q. (
         (
@@ -249,7 +246,7 @@ module _ {M : Type 1} (𝓤 : URA M) (H : Heap 𝓤) (𝓜 : Model 𝓤 H) (𝓖
       → ∥ CanSettle 𝓤 H 𝓜 𝓖 nodes sets set at ∥₁
   settles-any nodes sets set at e h e′ h′ fits small =
       let Os : SProp 𝓤 = Set set ∗ Number at ∗ emp 𝓤 in
-      let had : ent 𝓤 (emp 𝓤) Os = and-passed (Set set) (Number at ∗ emp 𝓤) (set-passed set fits) (and-passed (Number at) (emp 𝓤) (number-passed at small) (id⊢ 𝓤 (emp 𝓤))) in
+      let had : ent 𝓤 (emp 𝓤) Os = and-passed (Set set) (Number at ∗ emp 𝓤) (set-passed set fits) (and-passed (Number at) (emp 𝓤) (number-passed 𝓤 H 𝓜 𝓖 w64 at small) (id⊢ 𝓤 (emp 𝓤))) in
       ∥∥₁-elim (reads-more w64 40960 sets e′ h′ (emp 𝓤) Os (emp 𝓤) start (started Os had) 1) ∥∥₁-prop (λ p.
       ∥∥₁-map (reads-more w16 8192 nodes e h (live (p .2) ∗ emp 𝓤) (Reading 1 w64 40960 sets (p .1) (p .2) (p .3) ∗ Os) (emp 𝓤) (p .0) (p .4) 0)
       (λ q. (
@@ -273,7 +270,7 @@ module _ {M : Type 1} (𝓤 : URA M) (H : Heap 𝓤) (𝓜 : Model 𝓤 H) (𝓖
   steps-any heads sets set action reply e h e′ h′ fits small small′ =
       let Os : SProp 𝓤 = Set set ∗ Number action ∗ Number reply ∗ emp 𝓤 in
       let numbers : ent 𝓤 (emp 𝓤) (Number action ∗ Number reply ∗ emp 𝓤) =
-      and-passed (Number action) (Number reply ∗ emp 𝓤) (number-passed action small) (and-passed (Number reply) (emp 𝓤) (number-passed reply small′) (id⊢ 𝓤 (emp 𝓤))) in
+      and-passed (Number action) (Number reply ∗ emp 𝓤) (number-passed 𝓤 H 𝓜 𝓖 w64 action small) (and-passed (Number reply) (emp 𝓤) (number-passed 𝓤 H 𝓜 𝓖 w64 reply small′) (id⊢ 𝓤 (emp 𝓤))) in
       let had : ent 𝓤 (emp 𝓤) Os = and-passed (Set set) (Number action ∗ Number reply ∗ emp 𝓤) (set-passed set fits) numbers in
       ∥∥₁-elim (reads-more w64 40960 sets e′ h′ (emp 𝓤) Os (emp 𝓤) start (started Os had) 1) ∥∥₁-prop (λ p.
       ∥∥₁-map (reads-more w16 93 heads e h (live (p .2) ∗ emp 𝓤) (Reading 1 w64 40960 sets (p .1) (p .2) (p .3) ∗ Os) (emp 𝓤) (p .0) (p .4) 0)
