@@ -4,8 +4,7 @@ use mathlib.Core.Path.{_≡_, refl, ap, _∙_}
 use mathlib.Core.List.{List, [], _∷_, _++_, flatMap}
 use mathlib.Core.Bool.{Bool, true, false}
 use native.Mathlib.Omega.{arith}
-use lib.ListN.{length, getD, set, take, length-set, length-append, List·getD-append}
-use lib.Seq.{getD-set-same, getD-set-other}
+use lib.ListN.{length, getD, take, length-append, List·getD-append}
 use borrow.Author.Tests.{lt-ltb}
 use Rattle.lists.specs.Lists.{if_then_else_}
 use Rattle.lists.proofs.ListLaws.{append-past, made-get}
@@ -22,26 +21,10 @@ use Rattle.routine.specs.declared.memory.Head.{Head}
 use Rattle.routine.specs.declared.sheet.Prepared.{Prepared}
 use Rattle.routine.specs.Memory.{write, words, cells, setAt, nodeOf, nodeAt, headAt}
 use Rattle.routine.specs.Tables.{rows, replyTables, actionSets, atomSets, programSets, headCells, sheetActionSets, sheetSets, sheetNodes, sheetHeads, setWords, nodeCells, sheetStart, preparedOf, startOf, prepared}
-use Rattle.routine.proofs.WriteLaws.{spread-length, words-four, cells-four}
+use Rattle.routine.proofs.WriteLaws.{write-back, spread-length, words-four, cells-four}
 use Rattle.routine.proofs.RoomLaws.{action-length, heads-length, sheet-sets-length, sheet-nodes-length, accepted-room}
 
--- What was written is read back.
-write-past : (xs : List ℕ) (i : ℕ) (ys : List ℕ) (j : ℕ) → j < i → getD (write xs i ys) j 0 ≡ getD xs j 0
-unfolding write
-write-past xs i [] j l = refl
-write-past xs i (y ∷ ys) j l = write-past (set xs i y) (i + 1) ys j (omega arith) ∙ getD-set-other xs i j y 0 (λ e. omega (arith, e))
-
-pub write-back : (xs : List ℕ) (i : ℕ) (ys : List ℕ) → i + length ys ≤ length xs → (j : ℕ) → j < length ys → getD (write xs i ys) (i + j) 0 ≡ getD ys j 0
-unfolding write
-write-back xs i [] h j l = absurd (omega arith)
-write-back xs i (y ∷ ys) h zero l =
-    let e : i + 0 ≡ i = omega arith in
-    ap (λ (v : ℕ). getD (write (set xs i y) (i + 1) ys) v 0) e ∙ write-past (set xs i y) (i + 1) ys i (omega arith) ∙ getD-set-same xs i y 0 (omega arith)
-write-back xs i (y ∷ ys) h (suc j) l =
-    let e : i + suc j ≡ i + 1 + j = omega arith in
-    ap (λ (v : ℕ). getD (write (set xs i y) (i + 1) ys) v 0) e ∙ write-back (set xs i y) (i + 1) ys (omega (arith, length-set xs i y)) j (omega arith)
-
--- Written from the first place on.
+-- What was written from the first place on is read back.
 back : (xs ys : List ℕ) → length ys ≤ length xs → (j : ℕ) → j < length ys → getD (write xs 0 ys) j 0 ≡ getD ys j 0
 back xs ys h j l = let e : j ≡ 0 + j = omega arith in ap (λ (v : ℕ). getD (write xs 0 ys) v 0) e ∙ write-back xs 0 ys (omega arith) j l
 

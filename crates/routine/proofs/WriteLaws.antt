@@ -1,10 +1,10 @@
 -- Laws of writing numbers one after the other, and of what is written. Assumes nothing.
-use Prim.Native.Nat.{ℕ, suc, _+_, _*_, _<_, _≤_}
+use Prim.Native.Nat.{ℕ, zero, suc, _+_, _*_, _<_, _≤_}
 use mathlib.Core.Path.{_≡_, refl, ap, sym, _∙_}
 use mathlib.Core.List.{List, [], _∷_, _++_, flatMap, append-assoc, append-nil}
 use native.Mathlib.Omega.{arith}
 use lib.ListN.{length, getD, set, length-set, length-append}
-use lib.Seq.{set-comm, getD-set-other}
+use lib.Seq.{set-comm, getD-set-same, getD-set-other}
 use mathlib.Core.Bool.{true, false}
 use Rattle.states.specs.declared.States.{States}
 use Rattle.routine.specs.declared.memory.Node.{Node}
@@ -16,11 +16,23 @@ unfolding write
 write-length xs i [] = refl
 write-length xs i (y ∷ ys) = write-length (set xs i y) (i + 1) ys ∙ length-set xs i y
 
--- What stands behind what is written stays.
-pub write-behind : (xs : List ℕ) (i : ℕ) (ys : List ℕ) (j : ℕ) → i + length ys ≤ j → getD (write xs i ys) j 0 ≡ getD xs j 0
+-- What isn't written stays.
+pub write-elsewhere : (xs : List ℕ) (i : ℕ) (ys : List ℕ) (j : ℕ) → ((k : ℕ) → k < length ys → i + k ≡ j → ⊥) → getD (write xs i ys) j 0 ≡ getD xs j 0
 unfolding write
-write-behind xs i [] j l = refl
-write-behind xs i (y ∷ ys) j l = write-behind (set xs i y) (i + 1) ys j (omega arith) ∙ getD-set-other xs i j y 0 (λ e. omega (arith, e))
+write-elsewhere xs i [] j n = refl
+write-elsewhere xs i (y ∷ ys) j n =
+    write-elsewhere (set xs i y) (i + 1) ys j (λ k l e. n (suc k) (omega arith) (omega arith)) ∙ getD-set-other xs i j y 0 (λ e. n 0 (omega arith) (omega arith))
+
+-- What is written is read back.
+pub write-back : (xs : List ℕ) (i : ℕ) (ys : List ℕ) → i + length ys ≤ length xs → (j : ℕ) → j < length ys → getD (write xs i ys) (i + j) 0 ≡ getD ys j 0
+unfolding write
+write-back xs i [] h j l = absurd (omega arith)
+write-back xs i (y ∷ ys) h zero l =
+    let e : i + 0 ≡ i = omega arith in
+    ap (λ (v : ℕ). getD (write (set xs i y) (i + 1) ys) v 0) e ∙ write-elsewhere (set xs i y) (i + 1) ys i (λ k l e. omega (arith, e)) ∙ getD-set-same xs i y 0 (omega arith)
+write-back xs i (y ∷ ys) h (suc j) l =
+    let e : i + suc j ≡ i + 1 + j = omega arith in
+    ap (λ (v : ℕ). getD (write (set xs i y) (i + 1) ys) v 0) e ∙ write-back (set xs i y) (i + 1) ys (omega (arith, length-set xs i y)) j (omega arith)
 
 write-append : (xs : List ℕ) (i : ℕ) (ys zs : List ℕ) → write xs i (ys ++ zs) ≡ write (write xs i ys) (i + length ys) zs
 unfolding write

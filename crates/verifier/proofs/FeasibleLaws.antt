@@ -20,8 +20,7 @@ use Rattle.semantics.specs.Verdict.{trace, traceFrom, written}
 use Rattle.routine.specs.declared.memory.Head.{Head}
 use Rattle.routine.specs.Memory.{write, words, setAt, headAt}
 use Rattle.routine.proofs.MemoryLaws.{set-in}
-use Rattle.routine.proofs.WriteLaws.{write-length, write-behind}
-use Rattle.routine.proofs.TableLaws.{write-back}
+use Rattle.routine.proofs.WriteLaws.{write-length, write-elsewhere, write-back, words-four}
 use Rattle.progression.specs.Machine.{gathered, effect, stepped}
 use Rattle.progression.proofs.GatherLaws.{effect-rows, effect-none, step-none, step-kept}
 use Rattle.verifier.specs.Least.{pathFrom, after, preimage, feasible, leastOn, leastStates, FeasibleFrom}
@@ -178,8 +177,8 @@ module _ (memory : List ℕ) (k : ℕ) (set : States) where
   set-behind : (j : ℕ) → k < j → j < 65 → setAt (write memory (4 * k) (words set)) j ≡ setAt memory j
   unfolding words
   set-behind j h l =
-      let e : ((i : ℕ) → getD (write memory (4 * k) (words set)) (4 * j + i) 0 ≡ getD memory (4 * j + i) 0) = λ i. write-behind memory (4 * k) (words set) (4 * j + i) (omega arith) in
-      let e₀ : getD (write memory (4 * k) (words set)) (4 * j) 0 ≡ getD memory (4 * j) 0 = write-behind memory (4 * k) (words set) (4 * j) (omega arith) in
+      let e : ((i : ℕ) → getD (write memory (4 * k) (words set)) (4 * j + i) 0 ≡ getD memory (4 * j + i) 0) = λ i. write-elsewhere memory (4 * k) (words set) (4 * j + i) (λ n m e. omega (arith, m, e, words-four set)) in
+      let e₀ : getD (write memory (4 * k) (words set)) (4 * j) 0 ≡ getD memory (4 * j) 0 = write-elsewhere memory (4 * k) (words set) (4 * j) (λ n m e. omega (arith, m, e, words-four set)) in
       sym (set-in (write memory (4 * k) (words set)) j (omega arith)) ∙ (λ i. record { w0 = e₀ i; w1 = e 1 i; w2 = e 2 i; w3 = e 3 i }) ∙ set-in memory j (omega arith)
 
 -- The history of a path from a place on.

@@ -1,4 +1,5 @@
 pub mod PathLaws
+pub mod MemoLaws
 pub mod SearchLaws
 pub mod FeasibleLaws
 pub mod LeastLaws

@@ -1,3 +1,4 @@
 pub mod Search
+pub mod Memo
 pub mod Least
 pub mod Answers

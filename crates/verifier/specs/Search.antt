@@ -57,13 +57,17 @@ module _ (heads nodes sets : List ℕ) (budget : ℕ) where
       (if eqb c budget then over else behind (entry action r) (onward (stepped heads sets set action r) (c + 1)))
       else passed c
 
+  -- All replies to an action, where `onward` searches behind each.
+  unfoldable pub answered : (onward : States → (c : ℕ) → Found) → States → (action c : ℕ) → Found
+  unfolding eachReply visit upFrom headAt
+  answered onward set action c = eachReply (visit onward set action) (below (headAt heads action .count)) c
+
   -- The search from node `at` on with the states of a set possible, c histories being counted, for at most `left` actions. (No routine has more than 64 in a run; on any
   -- other memory the search leaves off as if the budget were exceeded.)
   unfoldable pub searched : (left at : ℕ) → States → (c : ℕ) → Found
-  unfolding atPlace settled eachReply visit upFrom headAt
+  unfolding atPlace settled answered
   searched zero at set c = atPlace (settled nodes sets set at) (λ node action. over) c
-  searched (suc left) at set c =
-      atPlace (settled nodes sets set at) (λ node action. eachReply (visit (searched left (node + 1)) set action) (below (headAt heads action .count)) c) c
+  searched (suc left) at set c = atPlace (settled nodes sets set at) (λ node action. answered (searched left (node + 1)) set action c) c
 
 -- "One byte (action times 8 plus reply)." On any memory it fits a byte; action numbers of a sheet are below 32, replies below 8.
 unfoldable pub pathByte : (action reply : ℕ) → ℕ

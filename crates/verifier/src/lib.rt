@@ -1,6 +1,7 @@
 // The verifier: the verdict on a sheet, and the least failing trace.
 mod least;
 mod limits;
+mod memo;
 mod search;
 mod verdict;
 

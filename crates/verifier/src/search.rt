@@ -1,5 +1,11 @@
 // The search through the histories of runs that follow the routine, over its tables.
 use crate::limits::ACTIONS;
+use crate::limits::MEMO_WORDS;
+use crate::memo::Recalled;
+use crate::memo::Slot;
+use crate::memo::recall;
+use crate::memo::remember;
+use crate::memo::slot_number;
 use progression::Place;
 use progression::settle;
 use progression::step;
@@ -9,9 +15,10 @@ use routine::SET_WORDS;
 use routine::head_at;
 use states::States;
 ghost use mathlib.Core.Path.{_≡_};
-ghost use Prim.Native.Nat.{_-_, _≤_};
+ghost use Prim.Native.Nat.{_+_, _-_, _≤_};
 ghost use lib.ListN.{length};
-ghost use Rattle.verifier.specs.Search.{pathByte, searched, SearchedBy};
+ghost use Rattle.verifier.specs.Search.{pathByte, searched, searchedOf, SearchedBy};
+ghost use Rattle.verifier.specs.Memo.{reaching, Sound};
 
 // All histories passed, with the count of those searched so far; one failed, with the count up to it and its length; or
 // the count exceeds the budget.
@@ -28,21 +35,35 @@ fn path_byte(action: usize, reply: usize) -> u8
     (action % 32 * 8 + reply % 8) as u8
 }
 
+// So many histories more, all of which pass: the count with them, or it exceeds the budget.
+fn count_passed(count: u32, more: u64, budget: u32) -> Searched
+    requires { ⌜ count ≤ budget ⌝ }
+    ensures { λ r. ⌜ r ≡ searchedOf 0 (reaching budget (count + more)) ⌝ }
+{
+    let left = budget - count;
+    if (left as u64) < more {
+        return Searched::Over;
+    }
+    Searched::Passed(count + more as u32)
+}
+
 // Searches the histories that go on from node `at`, after one of `depth` actions whose bytes the path holds and after
-// which the states of a set are possible; `count` have been counted so far, that one among them.
+// which the states of a set are possible; `count` have been counted so far, that one among them. Where what follows was
+// searched before, with the same states possible, and passed, its number is recalled and counted.
 pub(crate) fn search(
     heads: &[u16; HEAD_CELLS],
     nodes: &[u16; NODE_CELLS],
     sets: &[u64; SET_WORDS],
     path: &mut [u8; ACTIONS],
+    memo: &mut [u64; MEMO_WORDS],
     set: States,
     at: usize,
     depth: usize,
     count: u32,
     budget: u32,
 ) -> Searched
-    requires { ⌜ (depth ≤ 64) × (count ≤ budget) × (length (now path) ≡ 64) ⌝ }
-    ensures { λ r. ⌜ SearchedBy depth (now (path .entry)) (now (path .exit)) r (searched (now (heads .entry)) (now (nodes .entry)) (now (sets .entry)) budget (64 - depth) at set count) ⌝ }
+    requires { ⌜ (depth ≤ 64) × (count ≤ budget) × (length (now path) ≡ 64) × Sound (now heads) (now nodes) (now sets) budget (now memo) ⌝ }
+    ensures { λ r. ⌜ SearchedBy depth (now (path .entry)) (now (path .exit)) r (searched (now (heads .entry)) (now (nodes .entry)) (now (sets .entry)) budget (64 - depth) at set count) × Sound (now (heads .entry)) (now (nodes .entry)) (now (sets .entry)) budget (now (memo .exit)) ⌝ }
 {
     match settle(nodes, sets, set, at) {
         Place::End(holds) => {
@@ -54,6 +75,11 @@ pub(crate) fn search(
         Place::Act(node, action) => {
             if ACTIONS <= depth {
                 return Searched::Over;
+            }
+            let onward = node + 1;
+            let j = slot_number(set, onward);
+            if let Recalled::Passed(behind) = recall(memo, j, set, onward, action, depth) {
+                return count_passed(count, behind, budget);
             }
             let head = head_at(heads, action);
             let replies = head.count;
@@ -70,8 +96,9 @@ pub(crate) fn search(
                         nodes,
                         sets,
                         path,
+                        memo,
                         next,
-                        node + 1,
+                        onward,
                         depth + 1,
                         counted + 1,
                         budget,
@@ -88,6 +115,14 @@ pub(crate) fn search(
                     }
                 }
             }
+            let slot = Slot {
+                onward: onward as u64,
+                action: action as u64,
+                depth: depth as u64,
+                behind: (counted - count) as u64,
+                set,
+            };
+            remember(memo, j, slot);
             Searched::Passed(counted)
         }
     }

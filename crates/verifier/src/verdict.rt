@@ -1,6 +1,7 @@
 // The verdict on a sheet.
 use crate::least::show;
 use crate::limits::ACTIONS;
+use crate::limits::MEMO_WORDS;
 use crate::search::Searched;
 use crate::search::search;
 use reader::Refusal;
@@ -41,7 +42,19 @@ fn decide(
     ensures { λ r. ⌜ (r ≡ verdictFor budget (searched (now (heads .entry)) (now (nodes .entry)) (now (sets .entry)) budget 64 0 start 0)) × (now (trace .exit) ≡ memoryFor (now (heads .entry)) (now (sets .entry)) start (searched (now (heads .entry)) (now (nodes .entry)) (now (sets .entry)) budget 64 0 start 0) (now (trace .entry))) ⌝ }
 {
     let mut path = [0u8; ACTIONS];
-    match search(heads, nodes, sets, &mut path, start, 0, 0, 0, budget) {
+    let mut memo = [0u64; MEMO_WORDS];
+    match search(
+        heads,
+        nodes,
+        sets,
+        &mut path,
+        &mut memo,
+        start,
+        0,
+        0,
+        0,
+        budget,
+    ) {
         Searched::Passed(count) => Verdict::Valid(count),
         Searched::Over => Verdict::Stopped(budget),
         Searched::Failed(count, len) => {

@@ -1,12 +1,14 @@
 -- `decide` meets its contract: it answers as the search finds, and shows the least run along the path that the search leaves. Assumes nothing.
 use mathlib.Core.Path.{refl}
+use native.Mathlib.Omega.{arith}
+use Rattle.verifier.proofs.MemoLaws.{zeros-sound}
 use Rattle.verifier.proofs.AnswerLaws.{passed-decides, over-decides, failed-short, failed-decides}
 use borrow.Author.Needs.{needs}
 use Rattle.verifier.proofs.verdict.decide.Statement.{statement}
 use Rattle.verifier.proofs.verdict.decide.Tie as tie
 
 search-requires : tie.Need-search-requires
-search-requires c κs = search needs
+search-requires c κs = (omega arith, omega arith, refl, zeros-sound _ _ _ _)
 
 enum-known-count : tie.Need-enum-known-count
 enum-known-count c = search needs
@@ -21,13 +23,13 @@ show-requires : tie.Need-show-requires
 show-requires c κs =
     let s = c .before .before .before .before .before in
     let n = c .before .before .before .count2 .given in
-    (failed-short _ _ refl _ _ (s .search .ensures) _ _ (n .1), s .before .before .before .pre)
+    (failed-short _ _ refl _ _ (s .search .ensures .0) _ _ (n .1), s .before .before .before .before .pre)
 
 returns : tie.Need-returns
-returns c = passed-decides _ _ _ _ _ _ _ refl _ _ (c .before .before .before .search .ensures) _ (c .before .count .given .1)
+returns c = passed-decides _ _ _ _ _ _ _ refl _ _ (c .before .before .before .search .ensures .0) _ (c .before .count .given .1)
 
 returns-2 : tie.Need-returns-2
-returns-2 c = over-decides _ _ _ _ _ _ _ refl _ _ (c .before .before .search .ensures) (c .enum-told .given .1)
+returns-2 c = over-decides _ _ _ _ _ _ _ refl _ _ (c .before .before .search .ensures .0) (c .enum-told .given .1)
 
 same-length : tie.Need-same-length
 same-length c = search needs
@@ -35,7 +37,7 @@ same-length c = search needs
 returns-3 : tie.Need-returns-3
 returns-3 c =
     let n = c .before .before .before .before .before .before in
-    failed-decides _ _ _ _ _ _ _ refl _ _ (n .before .before .search .ensures) _ _ (n .count2 .given .1) _ (c .before .before .show .ensures)
+    failed-decides _ _ _ _ _ _ _ refl _ _ (n .before .before .search .ensures .0) _ _ (n .count2 .given .1) _ (c .before .before .show .ensures)
 
 pub decide-spec : {M : Type 1} → statement M
 decide-spec =
