@@ -6,7 +6,7 @@ mod common;
 use std::collections::BTreeSet;
 use std::sync::LazyLock;
 
-use common::{around_a_million, bytes, counted_lines, many, sheets, Case, BUDGET, FEW};
+use common::{around_a_million, bytes, counted_lines, many, sheets, straight, Case, BUDGET, FEW};
 use linked::{check, plain, print, verify, verify_words, Tables, Verdict, LINES};
 use recovery::check::Checked;
 use recovery::encode::encode;
@@ -240,6 +240,68 @@ fn counts_around_a_million() {
         }
     }
     assert!(below >= 20 && above >= 20, "{below} {above}");
+}
+
+/// Every budget up to the count and some beyond, where most histories are behind
+/// places and sets that were searched before.
+#[test]
+fn every_budget_of_repeated_sets() {
+    let mut random = Random::new(52);
+    let mut counts = BTreeSet::new();
+    for replies in [
+        &[2; 7][..],
+        &[3, 1, 2, 2, 1, 3],
+        &[1; 20],
+        &[8, 8, 2],
+        &[2, 8, 1, 8],
+    ] {
+        let sheet = encode(&straight(replies));
+        let Answer::Valid { count } = compare_by_tree(&sheet, BUDGET, &mut random) else {
+            panic!("{replies:?}")
+        };
+        for budget in 0..=count + 2 {
+            compare_by_tree(&sheet, budget, &mut random);
+        }
+        counts.insert(count);
+    }
+    assert!(counts.iter().any(|&count| count > 200), "{counts:?}");
+    // Budgets in between, where a goal can fail behind some sets.
+    let [mut valid, mut invalid, mut stopped] = [0; 3];
+    let few_facts = |case: &&Case| case.sheet.as_ref().is_some_and(|sheet| sheet.facts <= 6);
+    for case in beyond().filter(few_facts).take(100) {
+        for _ in 0..4 {
+            let budget = random.between(FEW as usize, 6_000) as u32;
+            match compare_by_tree(&case.bytes, budget, &mut random) {
+                Answer::Stopped { .. } => stopped += 1,
+                Answer::Valid { .. } => valid += 1,
+                Answer::Invalid { .. } => invalid += 1,
+                Answer::Refused(refusal) => panic!("{refusal:?}"),
+            }
+        }
+    }
+    let counts = [valid, invalid, stopped];
+    assert!(counts.iter().all(|&count| count >= 20), "{counts:?}");
+}
+
+/// Counts that no search one by one gets through, up to the greatest budget:
+/// n probes of two replies have 2 + 4 + .. + 2^n histories.
+#[test]
+fn counts_up_to_the_greatest_budget() {
+    let mut trace = [0; MAX_TRACE];
+    for probes in 20..=64u32 {
+        let sheet = encode(&straight(&vec![2; probes as usize]));
+        let count = (1u128 << (probes + 1)) - 2;
+        for budget in [1_000_000, 2_147_483_646, u32::MAX - 1, u32::MAX] {
+            let expected = match count > budget.into() {
+                true => Verdict::Stopped { budget },
+                false => Verdict::Valid {
+                    count: count as u32,
+                },
+            };
+            assert_eq!(verify(&sheet, budget, &mut trace), Ok(expected), "{probes}");
+        }
+    }
+    assert_eq!(trace, [0; MAX_TRACE]);
 }
 
 /// The trace with this history that begins in a state and always goes on in the
