@@ -86,6 +86,18 @@ extern "C" {
     ) -> u8;
 }
 
+#[cfg(feature = "before")]
+extern "C" {
+    fn before_verify(
+        bytes: *const u8,
+        length: usize,
+        budget: u32,
+        trace: *mut u8,
+        trace_length: usize,
+        verdict: &mut [u64; 3],
+    ) -> u8;
+}
+
 /// The memory that is lent for a sheet's tables.
 #[derive(Clone, Debug, PartialEq, Eq)]
 pub struct Tables {
@@ -201,6 +213,27 @@ pub fn verify_words(bytes: &[u8], budget: u32, trace: &mut [u8], verdict: &mut [
             trace.len(),
             verdict,
         )
+    }
+}
+
+/// The verdict of the library of an earlier commit, like `verify`.
+#[cfg(feature = "before")]
+pub fn verify_before(bytes: &[u8], budget: u32, trace: &mut [u8]) -> Result<Verdict, u8> {
+    let mut verdict = [0; 3];
+    // SAFETY: as above.
+    let number = unsafe {
+        before_verify(
+            bytes.as_ptr(),
+            bytes.len(),
+            budget,
+            trace.as_mut_ptr(),
+            trace.len(),
+            &mut verdict,
+        )
+    };
+    match number {
+        0 => Ok(verdict_of(verdict)),
+        number => Err(number),
     }
 }
 
