@@ -4,6 +4,7 @@
 //! (`crates/exports/src/lib.rt`), so they are few and plain.
 
 pub mod plain;
+pub mod straight;
 
 /// The numbers of the heads of a sheet's actions, three each.
 pub const HEAD_CELLS: usize = 93;

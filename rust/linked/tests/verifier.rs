@@ -7,10 +7,11 @@ use std::collections::BTreeSet;
 use std::sync::LazyLock;
 
 use common::{
-    around_a_million, branched, bytes, counted, counted_lines, fails_behind, histories, many,
-    repeating, reply_counts, sheets, straight, Case, BUDGET, FEW,
+    around_a_million, branched, bytes, counted_lines, fails_behind, many, repeating, sheets, Case,
+    BUDGET, FEW,
 };
 use linked::plain::{self, Counts};
+use linked::straight::{counted, histories, reply_counts, straight};
 use linked::{check, print, verify, verify_words, Place, Tables, Verdict, Words, LINES};
 use recovery::check::Checked;
 use recovery::encode::encode;

@@ -4,6 +4,7 @@
 
 use std::collections::BTreeSet;
 
+use linked::straight::{counted, histories, reply_counts, sequence, straight};
 use linked::{plain, Tables, Verdict};
 use recovery::edges::{self, edges};
 use recovery::encode::encode;
@@ -321,69 +322,11 @@ fn wide(leaves: usize) -> Objective {
     }
 }
 
-/// The actions one after the other.
-pub fn sequence(actions: &[u8]) -> Program {
-    followed(actions, Program::End)
-}
-
-fn followed(actions: &[u8], rest: Program) -> Program {
-    actions
-        .iter()
-        .rev()
-        .fold(rest, |rest, &action| Program::act(action, rest))
-}
-
-/// How many replies the actions of a straight program may have, one after the
-/// other, so that it has exactly so many histories.
-pub fn reply_counts(mut count: u64) -> Vec<u8> {
-    let mut replies = Vec::new();
-    while count > 0 {
-        let most = (1..=8)
-            .rev()
-            .find(|&most| count.is_multiple_of(most))
-            .unwrap();
-        replies.push(most as u8);
-        count = count / most - 1;
-    }
-    replies
-}
-
-/// Action k is a change for 0, else a probe with k + 1 replies, all of them true.
-fn telling_nothing() -> Vec<Action> {
-    let mut actions = vec![Action::Change(Objective::New(0).iff(Objective::Fact(0)))];
-    actions.extend((2..=8).map(|replies| Action::Probe(vec![Objective::True; replies])));
-    actions
-}
-
-fn numbers(replies: &[u8]) -> Vec<u8> {
-    replies.iter().map(|replies| replies - 1).collect()
-}
-
-/// A straight program of probes with these numbers of replies; 1 is a change.
-pub fn straight(replies: &[u8]) -> Sheet {
-    Sheet {
-        actions: telling_nothing(),
-        program: sequence(&numbers(replies)),
-        ..edges::plain()
-    }
-}
-
-/// How many histories that has: those behind a reply and the one with it, for each reply.
-pub fn histories(replies: &[u8]) -> u128 {
-    let replies = replies.iter().rev();
-    replies.fold(0, |behind, &most| u128::from(most) * (1 + behind))
-}
-
-/// A valid routine with so many histories.
-pub fn counted(count: u64) -> Sheet {
-    straight(&reply_counts(count))
-}
-
 /// The same by a branch: a probe of the fact, so many histories on the one side,
 /// so many on the other.
 pub fn branched(then: u64, otherwise: u64) -> Sheet {
     let mut sheet = counted(then);
-    put_behind_a_probe(&mut sheet, sequence(&numbers(&reply_counts(otherwise))));
+    put_behind_a_probe(&mut sheet, counted(otherwise).program);
     sheet
 }
 
