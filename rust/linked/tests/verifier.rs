@@ -449,8 +449,9 @@ fn counts_up_to_the_greatest_budget() {
     }
 }
 
-/// Compares the proved verifier with what it must answer for a sheet of so many
-/// histories, or for one with so many up to the first that fails, which has this trace.
+/// Compares the verifiers that remember, the proved one and the one in Rust, with
+/// what they must answer for a sheet of so many histories, or for one with so many
+/// up to the first that fails, which has this trace.
 fn compare_count(
     sheet: &Sheet,
     count: u128,
@@ -467,6 +468,12 @@ fn compare_count(
         }
         _ => Answer::Stopped { budget },
     };
+    let [mut lent, mut memory] = [[7; MAX_TRACE]; 2];
+    let mut tables = Tables::zeroed();
+    let start = plain::prepare(sheet, &mut tables);
+    let verdict = plain::verify_remembering(&tables, &start, budget, &mut memory);
+    assert_eq!(common::answer(verdict), expected(&mut lent), "{sheet:?}");
+    assert_eq!(memory, lent, "{sheet:?}");
     compare_with(expected, &encode(sheet), budget, MAX_TRACE, random)
 }
 

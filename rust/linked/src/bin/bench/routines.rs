@@ -15,7 +15,7 @@ use crate::{BUDGET, SAMPLE_1};
 /// Probes of each fact, one that tells nothing, some that overlap, and changes
 /// with few and with many next states.
 pub struct Routine {
-    actions: Vec<Action>,
+    pub actions: Vec<Action>,
 }
 
 impl Routine {
@@ -26,7 +26,7 @@ impl Routine {
     /// A probe of which two or three of three replies are true, in most states.
     pub const OVERLAP: u8 = 9;
     /// Changes: each fact stays, is toggled; four facts are free; all are.
-    const STAY: u8 = 17;
+    pub const STAY: u8 = 17;
     const TOGGLE: u8 = 18;
     const FREE_FOUR: u8 = 19;
     const FREE: u8 = 20;

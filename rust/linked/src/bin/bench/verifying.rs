@@ -22,8 +22,9 @@ pub const BEFORE: Option<Verify> = Some(linked::verify_before);
 #[cfg(not(feature = "before"))]
 pub const BEFORE: Option<Verify> = None;
 
-/// More histories than these take a search one by one over tables longer than 5
-/// to 10 seconds, and one over the tree longer than some seconds: it isn't run.
+/// With more histories a search one by one, over tables or over the tree, would take
+/// more than some seconds, and isn't run. (Over the tree a history takes up to 40 µs,
+/// but less on all the sheets that are searched up to `BUDGET`.)
 const MOST_OVER_TABLES: u32 = 500_000_000;
 const MOST_OVER_TREE: u32 = 100_000;
 
@@ -40,11 +41,11 @@ struct Row {
 
 pub fn rows() {
     println!(
-        "{:<54} {:>7} {:>10} {:>39} {:>23} {:>31} {:>27}",
-        "", "", "", "proved, ms", "Rust, ms", "ratio of proved", "search, a history, ns"
+        "{:<73} {:>21} {:>32} {:>39} {:>21}",
+        "", "proved, ms", "Rust, ms", "ratio of proved", "search, ns a history"
     );
     println!(
-        "{:<54} {:>7} {:>10} {:>10} {:>10} {:>10} {:>10} {:>10} {:>9} {:>9} {:>9} {:>9} {:>9} {:>9}",
+        "{:<54} {:>7} {:>10} {:>10} {:>10} {:>10} {:>10} {:>10} {:>9} {:>9} {:>9} {:>9} {:>10} {:>10}",
         "sheet",
         "verdict",
         "count",
@@ -74,7 +75,7 @@ pub fn rows() {
         }
         total.prepare += row.prepare;
     }
-    print_row("all of these", "", total);
+    print_row("all", "", total);
     assert!(total.count >= 1e6);
     for (name, sheet, budget) in later_sheets() {
         let (verdict, row) = time_verifying(&encode(&sheet), budget, MOST_OVER_TREE);
@@ -100,7 +101,7 @@ fn print_row(name: &str, verdict: &str, row: Row) {
         let search = time.map(|time| (time - row.prepare) / row.count);
         // A difference of times tells nothing where there is little to search.
         let search = search.filter(|_| row.count >= 10_000.0);
-        print!(" {:>9}", shown(search, 2));
+        print!(" {:>10}", shown(search, 2));
     }
     println!();
 }
