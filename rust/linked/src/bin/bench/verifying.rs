@@ -22,9 +22,9 @@ pub const BEFORE: Option<Verify> = Some(linked::verify_before);
 #[cfg(not(feature = "before"))]
 pub const BEFORE: Option<Verify> = None;
 
-/// With more histories a search one by one, over tables or over the tree, would take
-/// more than some seconds, and isn't run. (Over the tree a history takes up to 40 µs,
-/// but less on all the sheets that are searched up to `BUDGET`.)
+/// With more histories a search one by one would take more than some seconds, and
+/// isn't run. (Over the tree a history takes up to some 50 µs; the sheets of the
+/// sum are searched up to `BUDGET`, being quicker than that or having few.)
 const MOST_OVER_TABLES: u32 = 500_000_000;
 const MOST_OVER_TREE: u32 = 100_000;
 
