@@ -373,11 +373,11 @@ impl Remember for Slots {
     }
 }
 
-/// The slot for a set and a node: each half of a word by a factor of its own.
-fn slot_of(set: &Words, onward: usize) -> usize {
-    let x = set[0].wrapping_add(set[1].wrapping_mul(3));
-    let y = set[2].wrapping_add(set[3].wrapping_mul(5));
-    let y = y.wrapping_add(onward as u64);
+/// The slot for a set and a node, the same as the proved search has.
+fn slot_number(set: &Words, onward: usize) -> usize {
+    let joined = |a: u64, b: u64| a.wrapping_add(b.wrapping_mul(2));
+    let x = joined(set[0], set[1]);
+    let y = joined(set[2], set[3]).wrapping_add(onward as u64);
     let low = |word: u64| word % (1 << 32);
     let high = |word: u64| word / (1 << 32);
     let mixed = (low(x) * 0x9e37_79b1)
@@ -466,7 +466,7 @@ impl<M: Remember> Search<'_, M> {
             Place::End { goal: false } => return Err(Halt::GoalFails { length }),
             Place::Act { node, action } => (node, action),
         };
-        let slot = slot_of(set, node + 1);
+        let slot = slot_number(set, node + 1);
         let place = Reached {
             onward: node + 1,
             action,
