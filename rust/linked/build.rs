@@ -1,4 +1,5 @@
-//! Links the static library that `rt staticlib exports` writes.
+//! Links the static library that `rt staticlib exports` writes, and with the feature
+//! `before` the one that `tests/before` writes.
 
 use std::path::PathBuf;
 
@@ -6,9 +7,13 @@ fn main() {
     let root = PathBuf::from(std::env::var("CARGO_MANIFEST_DIR").unwrap()).join("../..");
     let folder = root.join("target/staticlib");
     println!("cargo:rustc-link-search=native={}", folder.display());
-    println!("cargo:rustc-link-lib=static=exports");
-    println!(
-        "cargo:rerun-if-changed={}",
-        folder.join("libexports.a").display()
-    );
+    let mut libraries = vec!["exports"];
+    if std::env::var_os("CARGO_FEATURE_BEFORE").is_some() {
+        libraries.push("before");
+    }
+    for library in libraries {
+        println!("cargo:rustc-link-lib=static={library}");
+        let file = folder.join(format!("lib{library}.a"));
+        println!("cargo:rerun-if-changed={}", file.display());
+    }
 }

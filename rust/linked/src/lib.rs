@@ -4,6 +4,7 @@
 //! (`crates/exports/src/lib.rt`), so they are few and plain.
 
 pub mod plain;
+pub mod straight;
 
 /// The numbers of the heads of a sheet's actions, three each.
 pub const HEAD_CELLS: usize = 93;
@@ -83,6 +84,18 @@ extern "C" {
         replies: &mut [u8; REPLIES],
         lengths: &mut [usize; 2],
         reply: u8,
+    ) -> u8;
+}
+
+#[cfg(feature = "before")]
+extern "C" {
+    fn before_verify(
+        bytes: *const u8,
+        length: usize,
+        budget: u32,
+        trace: *mut u8,
+        trace_length: usize,
+        verdict: &mut [u64; 3],
     ) -> u8;
 }
 
@@ -201,6 +214,27 @@ pub fn verify_words(bytes: &[u8], budget: u32, trace: &mut [u8], verdict: &mut [
             trace.len(),
             verdict,
         )
+    }
+}
+
+/// The verdict of the library of an earlier commit, like `verify`.
+#[cfg(feature = "before")]
+pub fn verify_before(bytes: &[u8], budget: u32, trace: &mut [u8]) -> Result<Verdict, u8> {
+    let mut verdict = [0; 3];
+    // SAFETY: as above.
+    let number = unsafe {
+        before_verify(
+            bytes.as_ptr(),
+            bytes.len(),
+            budget,
+            trace.as_mut_ptr(),
+            trace.len(),
+            &mut verdict,
+        )
+    };
+    match number {
+        0 => Ok(verdict_of(verdict)),
+        number => Err(number),
     }
 }
 

@@ -1,7 +1,9 @@
 //! A sheet's tables, steps over them, where the program settles and the verdict,
 //! as a plain Rust program does it: what the proved functions are compared with.
 
-use recovery::sheet::{Action, Epistemic, Program, Sheet, MAX_ACTION_NODES};
+use std::collections::HashMap;
+
+use recovery::sheet::{Action, Epistemic, Program, Sheet, MAX_ACTION_NODES, MAX_TRACE};
 use recovery::states::{states, State};
 use recovery::step::start_states;
 use recovery::truth::{holds, holds_between};
@@ -235,14 +237,60 @@ pub fn follow(tables: &Tables, start: &Words, replies: &[u8]) -> Option<(Words, 
     Some((set, settled(tables, &set, at)))
 }
 
-/// The verdict over the tables of a sheet and its start set. The least failing
-/// trace is written to the front of `memory`.
+/// The verdict over the tables of a sheet and its start set, with every history
+/// visited. The least failing trace is written to the front of `memory`.
 pub fn verify(tables: &Tables, start: &Words, budget: u32, memory: &mut [u8]) -> Verdict {
+    verify_with(tables, start, budget, memory, &mut Forgetful)
+}
+
+/// The same, where the histories behind a place that was searched before are not
+/// visited again, as long as it is remembered.
+pub fn verify_remembering(
+    tables: &Tables,
+    start: &Words,
+    budget: u32,
+    memory: &mut [u8],
+) -> Verdict {
+    verify_with(tables, start, budget, memory, &mut Slots::new())
+}
+
+/// The same, with what the search did.
+pub fn verify_counting(
+    tables: &Tables,
+    start: &Words,
+    budget: u32,
+    memory: &mut [u8],
+) -> (Verdict, Counts) {
+    let mut counting = Counting {
+        slots: Slots::new(),
+        counts: Counts::default(),
+    };
+    let verdict = verify_with(tables, start, budget, memory, &mut counting);
+    (verdict, counting.counts)
+}
+
+/// How many different places the search with this budget comes to, each an action
+/// node and a set. Nothing is forgotten, since no other places are behind a place
+/// when it is come to again.
+pub fn places(tables: &Tables, start: &Words, budget: u32) -> usize {
+    let mut all = Unforgetful::default();
+    verify_with(tables, start, budget, &mut [0; MAX_TRACE], &mut all);
+    all.0.len()
+}
+
+fn verify_with<M: Remember>(
+    tables: &Tables,
+    start: &Words,
+    budget: u32,
+    memory: &mut [u8],
+    remembered: &mut M,
+) -> Verdict {
     let mut search = Search {
         tables,
         budget,
         count: 0,
         path: [(0, 0); MAX_ACTION_NODES],
+        remembered,
     };
     match search.visit(start, 0, 0) {
         Ok(()) => Verdict::Valid {
@@ -259,22 +307,158 @@ pub fn verify(tables: &Tables, start: &Words, budget: u32, memory: &mut [u8]) ->
     }
 }
 
+/// After `depth` actions, the states of a set being possible, an action comes
+/// whose replies lead on to a node.
+struct Reached<'a> {
+    onward: usize,
+    action: usize,
+    depth: usize,
+    set: &'a Words,
+}
+
+/// What a search remembers of places from which every history passed.
+trait Remember {
+    /// How many histories are behind a place with this slot, if that is remembered.
+    fn recall(&mut self, slot: usize, place: &Reached) -> Option<u64>;
+
+    fn remember(&mut self, slot: usize, place: &Reached, behind: u64);
+
+    /// A history is visited.
+    fn visited(&mut self) {}
+}
+
+/// Remembers nothing.
+struct Forgetful;
+
+impl Remember for Forgetful {
+    fn recall(&mut self, _: usize, _: &Reached) -> Option<u64> {
+        None
+    }
+
+    fn remember(&mut self, _: usize, _: &Reached, _: u64) {}
+}
+
+/// How many places are remembered at a time.
+const SLOTS: usize = 256;
+
+/// In each slot a place's node, action, depth, the number of histories behind it
+/// and its set; no place leads on to node 0.
+struct Slots([[u64; 8]; SLOTS]);
+
+impl Slots {
+    fn new() -> Slots {
+        Slots([[0; 8]; SLOTS])
+    }
+
+    /// At which depth a place was remembered, and with how many histories behind it.
+    fn found(&self, slot: usize, place: &Reached) -> Option<(usize, u64)> {
+        let [onward, action, depth, behind, ref set @ ..] = self.0[slot];
+        let same = onward == place.onward as u64 && action == place.action as u64;
+        (same && set == place.set).then_some((depth as usize, behind))
+    }
+}
+
+impl Remember for Slots {
+    fn recall(&mut self, slot: usize, place: &Reached) -> Option<u64> {
+        match self.found(slot, place) {
+            Some((depth, behind)) if place.depth <= depth => Some(behind),
+            _ => None,
+        }
+    }
+
+    fn remember(&mut self, slot: usize, place: &Reached, behind: u64) {
+        let [onward, action, depth] = [place.onward, place.action, place.depth].map(|x| x as u64);
+        let [a, b, c, d] = *place.set;
+        self.0[slot] = [onward, action, depth, behind, a, b, c, d];
+    }
+}
+
+/// The slot for a set and a node, the same as the proved search has.
+fn slot_number(set: &Words, onward: usize) -> usize {
+    let joined = |a: u64, b: u64| a.wrapping_add(b.wrapping_mul(2));
+    let x = joined(set[0], set[1]);
+    let y = joined(set[2], set[3]).wrapping_add(onward as u64);
+    let low = |word: u64| word % (1 << 32);
+    let high = |word: u64| word / (1 << 32);
+    let mixed = (low(x) * 0x9e37_79b1)
+        ^ (high(x) * 0x85eb_ca6b)
+        ^ (low(y) * 0xc2b2_ae35)
+        ^ (high(y) * 0x27d4_eb2f);
+    high(mixed) as usize % SLOTS
+}
+
+/// What a search with slots did.
+#[derive(Clone, Copy, Debug, Default, PartialEq, Eq)]
+pub struct Counts {
+    /// Histories visited one by one.
+    pub visited: u64,
+    /// Action nodes come to, each a look-up.
+    pub looked: u64,
+    /// Look-ups that told how many histories are behind the place,
+    pub hits: u64,
+    /// of those the ones of a place remembered at a greater depth,
+    pub hits_above: u64,
+    /// and look-ups that told nothing since the place was remembered at a smaller one.
+    pub misses_below: u64,
+}
+
+struct Counting {
+    slots: Slots,
+    counts: Counts,
+}
+
+impl Remember for Counting {
+    fn recall(&mut self, slot: usize, place: &Reached) -> Option<u64> {
+        let depth = self.slots.found(slot, place).map(|(depth, _)| depth);
+        let recalled = self.slots.recall(slot, place);
+        let counts = &mut self.counts;
+        counts.looked += 1;
+        counts.hits += u64::from(recalled.is_some());
+        counts.hits_above += u64::from(depth.is_some_and(|depth| place.depth < depth));
+        counts.misses_below += u64::from(depth.is_some_and(|depth| place.depth > depth));
+        recalled
+    }
+
+    fn remember(&mut self, slot: usize, place: &Reached, behind: u64) {
+        self.slots.remember(slot, place, behind);
+    }
+
+    fn visited(&mut self) {
+        self.counts.visited += 1;
+    }
+}
+
+/// All places come to, with the number of histories behind them once that is known.
+#[derive(Default)]
+struct Unforgetful(HashMap<(usize, Words), Option<u64>>);
+
+impl Remember for Unforgetful {
+    fn recall(&mut self, _: usize, place: &Reached) -> Option<u64> {
+        *self.0.entry((place.onward, *place.set)).or_default()
+    }
+
+    fn remember(&mut self, _: usize, place: &Reached, behind: u64) {
+        self.0.insert((place.onward, *place.set), Some(behind));
+    }
+}
+
 /// Why the search ends early.
 enum Halt {
     OverBudget,
     GoalFails { length: usize },
 }
 
-struct Search<'a> {
+struct Search<'a, M> {
     tables: &'a Tables,
     budget: u32,
-    /// Number of non-empty histories visited so far.
+    /// Number of non-empty histories counted so far.
     count: u32,
     /// The actions and replies of the history at hand.
     path: [(u8, u8); MAX_ACTION_NODES],
+    remembered: &'a mut M,
 }
 
-impl Search<'_> {
+impl<M: Remember> Search<'_, M> {
     /// Visits all histories that continue the one at hand, of so many actions, in order.
     fn visit(&mut self, set: &Words, at: usize, length: usize) -> Result<(), Halt> {
         let (node, action) = match settled(self.tables, set, at) {
@@ -282,6 +466,21 @@ impl Search<'_> {
             Place::End { goal: false } => return Err(Halt::GoalFails { length }),
             Place::Act { node, action } => (node, action),
         };
+        let slot = slot_number(set, node + 1);
+        let place = Reached {
+            onward: node + 1,
+            action,
+            depth: length,
+            set,
+        };
+        if let Some(behind) = self.remembered.recall(slot, &place) {
+            if u64::from(self.budget - self.count) < behind {
+                return Err(Halt::OverBudget);
+            }
+            self.count += behind as u32;
+            return Ok(());
+        }
+        let before = self.count;
         let [_, _, replies] = head_at(self.tables, action);
         for reply in 0..replies {
             let mut after = *set;
@@ -293,9 +492,12 @@ impl Search<'_> {
                 return Err(Halt::OverBudget);
             }
             self.count += 1;
+            self.remembered.visited();
             self.path[length] = (action as u8, reply as u8);
             self.visit(&after, node + 1, length + 1)?;
         }
+        let behind = u64::from(self.count - before);
+        self.remembered.remember(slot, &place, behind);
         Ok(())
     }
 }

@@ -6,8 +6,13 @@ mod common;
 use std::collections::BTreeSet;
 use std::sync::LazyLock;
 
-use common::{around_a_million, bytes, counted_lines, many, sheets, Case, BUDGET, FEW};
-use linked::{check, plain, print, verify, verify_words, Tables, Verdict, LINES};
+use common::{
+    around_a_million, branched, bytes, counted_lines, fails_behind, many, repeating, sheets, Case,
+    BUDGET, FEW,
+};
+use linked::plain::{self, Counts};
+use linked::straight::{counted, histories, reply_counts, straight};
+use linked::{check, print, verify, verify_words, Place, Tables, Verdict, Words, LINES};
 use recovery::check::Checked;
 use recovery::encode::encode;
 use recovery::execute::Execution;
@@ -169,20 +174,84 @@ fn a_verdict_in_words() {
     assert_eq!(seen.len(), 4);
 }
 
-/// The Rust verifier with the same tables, which the benchmark times.
+/// The Rust verifiers with the same tables, which the benchmark times.
 #[test]
 fn verdicts_over_plain_tables() {
     let mut random = Random::new(44);
     let mut tables = Tables::zeroed();
+    let mut seen = Counts::default();
     for (case, sheet) in accepted() {
         let start = plain::prepare(sheet, &mut tables);
-        let mut expected = bytes(&mut random, MAX_TRACE);
-        let mut memory = expected.clone();
-        let verdict = plain::verify(&tables, &start, FEW, &mut memory);
+        let before = bytes(&mut random, MAX_TRACE);
+        let mut expected = before.clone();
         let answer = recovery::verify::verify(&case.bytes, FEW, &mut expected);
-        assert_eq!(common::answer(verdict), answer, "{:02x?}", case.bytes);
-        assert_eq!(memory, expected, "{:02x?}", case.bytes);
+        let [mut all, mut remembering, mut counting] = [(); 3].map(|()| before.clone());
+        let (verdict, counts) = plain::verify_counting(&tables, &start, FEW, &mut counting);
+        let verdicts = [
+            plain::verify(&tables, &start, FEW, &mut all),
+            plain::verify_remembering(&tables, &start, FEW, &mut remembering),
+            verdict,
+        ];
+        assert_eq!(
+            verdicts.map(common::answer),
+            [answer; 3],
+            "{:02x?}",
+            case.bytes
+        );
+        for memory in [all, remembering, counting] {
+            assert_eq!(memory, expected, "{:02x?}", case.bytes);
+        }
+        // A place has histories behind it, which are visited where no look-up hits.
+        match answer {
+            Answer::Valid { count } | Answer::Invalid { count, .. } => {
+                assert_eq!(counts.visited == count.into(), counts.hits == 0)
+            }
+            _ => assert!(counts.visited <= FEW.into()),
+        }
+        add(&mut seen, counts);
     }
+    assert!(seen.hits >= 2000 && seen.looked >= 10_000, "{seen:?}");
+}
+
+/// The places that the search comes to are found by a search that forgets none of
+/// them, and here one by one.
+#[test]
+fn places_one_by_one() {
+    fn visit(tables: &Tables, set: &Words, at: usize, all: &mut BTreeSet<(usize, Words)>) {
+        let Place::Act { node, action } = plain::settle(tables, set, at) else {
+            return;
+        };
+        all.insert((node, *set));
+        for reply in 0..8 {
+            let mut after = *set;
+            plain::step(tables, &mut after, action, reply);
+            if after != [0; 4] {
+                visit(tables, &after, node + 1, all);
+            }
+        }
+    }
+    let mut tables = Tables::zeroed();
+    let (mut compared, mut fewer) = (0, 0);
+    for (case, sheet) in accepted() {
+        let Answer::Valid { count } = case.answer else {
+            continue;
+        };
+        let start = plain::prepare(sheet, &mut tables);
+        let mut all = BTreeSet::new();
+        visit(&tables, &start, 0, &mut all);
+        assert_eq!(plain::places(&tables, &start, FEW), all.len());
+        compared += 1;
+        fewer += usize::from(2 * all.len() < count as usize);
+    }
+    assert!(compared >= 1000 && fewer >= 100, "{compared} {fewer}");
+}
+
+fn add(sum: &mut Counts, counts: Counts) {
+    sum.visited += counts.visited;
+    sum.looked += counts.looked;
+    sum.hits += counts.hits;
+    sum.hits_above += counts.hits_above;
+    sum.misses_below += counts.misses_below;
 }
 
 /// Beyond `FEW` histories, as far as the tree is quick.
@@ -240,6 +309,230 @@ fn counts_around_a_million() {
         }
     }
     assert!(below >= 20 && above >= 20, "{below} {above}");
+}
+
+/// Compares the proved verifier with the tree at every budget up to the count and
+/// some beyond; gives the answer with the greatest.
+fn compare_every_budget(sheet: &[u8], count: u32, random: &mut Random) -> Answer {
+    for budget in 0..count {
+        let answer = compare_by_tree(sheet, budget, random);
+        assert_eq!(answer, Answer::Stopped { budget });
+    }
+    let answers = (count..=count + 2).map(|budget| compare_by_tree(sheet, budget, random));
+    let answers: Vec<Answer> = answers.collect();
+    assert_eq!(answers, [answers[0]; 3]);
+    answers[0]
+}
+
+/// Where most histories are behind places and sets that were searched before.
+#[test]
+fn every_budget_of_repeated_sets() {
+    let mut random = Random::new(52);
+    for replies in [
+        &[2; 7][..],
+        &[3, 1, 2, 2, 1, 3],
+        &[1; 20],
+        &[8, 8, 2],
+        &[2, 8, 1, 8],
+    ] {
+        let count = histories(replies) as u32;
+        let sheet = encode(&straight(replies));
+        let answer = compare_every_budget(&sheet, count, &mut random);
+        assert_eq!(answer, Answer::Valid { count });
+    }
+    // Places come to at other depths, sooner or later than before, and goals that
+    // fail behind what is remembered.
+    let mut tables = Tables::zeroed();
+    let mut seen = Counts::default();
+    let [mut valid, mut invalid] = [0; 2];
+    for _ in 0..6000 {
+        let sheet = repeating(&mut random, 3, 9);
+        let start = plain::prepare(&sheet, &mut tables);
+        let memory = &mut [0; MAX_TRACE];
+        let (verdict, counts) = plain::verify_counting(&tables, &start, FEW, memory);
+        let (Verdict::Valid { count } | Verdict::Invalid { count, .. }) = verdict else {
+            continue;
+        };
+        let fails = matches!(verdict, Verdict::Invalid { .. });
+        if counts.hits_above + counts.misses_below == 0 || !fails && valid >= 300 {
+            continue;
+        }
+        match compare_every_budget(&encode(&sheet), count, &mut random) {
+            Answer::Invalid { .. } => invalid += 1,
+            _ => valid += 1,
+        }
+        add(&mut seen, counts);
+    }
+    assert!(valid == 300 && invalid >= 50, "{valid} {invalid}");
+    assert!(seen.hits_above >= 100, "{seen:?}");
+    assert!(seen.misses_below >= 100, "{seen:?}");
+    // Budgets in between, where a goal can fail behind some sets.
+    let [mut valid, mut invalid, mut stopped] = [0; 3];
+    let few_facts = |case: &&Case| case.sheet.as_ref().is_some_and(|sheet| sheet.facts <= 6);
+    for case in beyond().filter(few_facts).take(100) {
+        for _ in 0..6 {
+            let budget = random.between(FEW as usize, 6_000) as u32;
+            match compare_by_tree(&case.bytes, budget, &mut random) {
+                Answer::Stopped { .. } => stopped += 1,
+                Answer::Valid { .. } => valid += 1,
+                Answer::Invalid { .. } => invalid += 1,
+                Answer::Refused(refusal) => panic!("{refusal:?}"),
+            }
+        }
+    }
+    let counts = [valid, invalid, stopped];
+    assert!(counts.iter().all(|&count| count >= 20), "{counts:?}");
+}
+
+/// Sheets on which the search recalls what is behind a place and then comes to a
+/// history that fails, behind it in the order.
+#[test]
+fn failures_behind_remembered_places() {
+    let mut random = Random::new(55);
+    let mut tables = Tables::zeroed();
+    let mut sheets = BTreeSet::new();
+    let mut seen = Counts::default();
+    let mut lengths = BTreeSet::new();
+    for _ in 0..80_000 {
+        let (facts, row) = *random.pick(&[(2, 8), (2, 8), (2, 8), (3, 10), (4, 14), (6, 16)]);
+        let sheet = repeating(&mut random, facts, row);
+        let bytes = encode(&sheet);
+        if linked::read(&bytes) != 0 {
+            continue;
+        }
+        let start = plain::prepare(&sheet, &mut tables);
+        let memory = &mut [0; MAX_TRACE];
+        let (verdict, counts) = plain::verify_counting(&tables, &start, 1000, memory);
+        let Verdict::Invalid { count, length } = verdict else {
+            continue;
+        };
+        if counts.hits == 0 || !sheets.insert(bytes.clone()) {
+            continue;
+        }
+        let expected = Answer::Invalid { count, length };
+        let stopped = Answer::Stopped { budget: count - 1 };
+        for (budget, expected) in [
+            (count - 1, stopped),
+            (count, expected),
+            (count + 1, expected),
+            (u32::MAX, expected),
+        ] {
+            assert_eq!(compare_by_tree(&bytes, budget, &mut random), expected);
+            let mut shown = [0; MAX_TRACE];
+            let verdict = plain::verify_remembering(&tables, &start, budget, &mut shown);
+            assert_eq!(common::answer(verdict), expected);
+            // What was counted was the search that is compared.
+            assert_eq!(shown == *memory, budget >= count);
+        }
+        add(&mut seen, counts);
+        lengths.insert(length);
+    }
+    assert!(sheets.len() >= 5000, "{}", sheets.len());
+    assert!(lengths.len() >= 20, "{lengths:?}");
+    // At a depth at which what is remembered serves, and at one where it does not.
+    assert!(seen.hits >= 15_000, "{seen:?}");
+    assert!(seen.hits_above >= 1000, "{seen:?}");
+    assert!(seen.misses_below >= 2000, "{seen:?}");
+}
+
+/// Counts that no search one by one gets through, up to the greatest budget:
+/// n probes of two replies have 2 + 4 + .. + 2^n histories.
+#[test]
+fn counts_up_to_the_greatest_budget() {
+    let mut random = Random::new(56);
+    for probes in 20..=64 {
+        let sheet = straight(&vec![2; probes]);
+        let count = (1u128 << (probes + 1)) - 2;
+        for budget in [1_000_000, 2_147_483_646, u32::MAX - 1, u32::MAX] {
+            compare_count(&sheet, count, budget, None, &mut random);
+        }
+    }
+}
+
+/// Compares the verifiers that remember, the proved one and the one in Rust, with
+/// what they must answer for a sheet of so many histories, or for one with so many
+/// up to the first that fails, which has this trace.
+fn compare_count(
+    sheet: &Sheet,
+    count: u128,
+    budget: u32,
+    fails: Option<&[u8]>,
+    random: &mut Random,
+) -> Answer {
+    let expected = |memory: &mut [u8]| match (u32::try_from(count), fails) {
+        (Ok(count), None) if count <= budget => Answer::Valid { count },
+        (Ok(count), Some(trace)) if count <= budget => {
+            memory[..trace.len()].copy_from_slice(trace);
+            let length = trace.len() / 2;
+            Answer::Invalid { count, length }
+        }
+        _ => Answer::Stopped { budget },
+    };
+    let [mut lent, mut memory] = [[7; MAX_TRACE]; 2];
+    let mut tables = Tables::zeroed();
+    let start = plain::prepare(sheet, &mut tables);
+    let verdict = plain::verify_remembering(&tables, &start, budget, &mut memory);
+    assert_eq!(common::answer(verdict), expected(&mut lent), "{sheet:?}");
+    assert_eq!(memory, lent, "{sheet:?}");
+    compare_with(expected, &encode(sheet), budget, MAX_TRACE, random)
+}
+
+/// Sheets with so many histories, none of which fails.
+fn passing(count: u64) -> Vec<Sheet> {
+    let changes_first = [&[1; 30], &reply_counts(count - 30)[..]].concat();
+    let sides = [0, 1, 5, 100, count / 2, count - 7];
+    let mut sheets = vec![counted(count), straight(&changes_first)];
+    sheets.extend(sides.map(|otherwise| branched(count - 2 - otherwise, otherwise)));
+    sheets
+}
+
+/// Sheets with so many histories up to the first that fails, and its trace.
+fn failing(count: u64) -> Vec<(Sheet, Vec<u8>)> {
+    let sides = [&[][..], &[1], &[1; 10], &[2, 1, 3], &[3, 2, 2, 1], &[2; 7]];
+    sides.map(|side| fails_behind(count, side)).into()
+}
+
+#[test]
+fn counts_around_the_greatest_budget() {
+    let mut random = Random::new(57);
+    // By the tree first, as far as that goes.
+    for count in [300, 301, 1000, 1023] {
+        let budget = count as u32;
+        for sheet in passing(count) {
+            let answer = compare_by_tree(&encode(&sheet), budget, &mut random);
+            assert_eq!(answer, Answer::Valid { count: budget });
+            compare_count(&sheet, count.into(), budget, None, &mut random);
+        }
+        for (sheet, trace) in failing(count) {
+            let answer = compare_by_tree(&encode(&sheet), budget, &mut random);
+            let length = trace.len() / 2;
+            let count = budget;
+            assert_eq!(answer, Answer::Invalid { count, length });
+            compare_count(&sheet, count.into(), budget, Some(&trace), &mut random);
+        }
+    }
+    let mut answers = [0; 3];
+    for count in (1 << 32) - 3..=(1u64 << 32) + 1 {
+        let passing = passing(count).into_iter().map(|sheet| (sheet, None));
+        let failing = failing(count).into_iter();
+        let failing = failing.map(|(sheet, trace)| (sheet, Some(trace)));
+        for (sheet, trace) in passing.chain(failing) {
+            for budget in u32::MAX - 4..=u32::MAX {
+                let trace = trace.as_deref();
+                let answer = compare_count(&sheet, count.into(), budget, trace, &mut random);
+                answers[match answer {
+                    Answer::Valid { .. } => 0,
+                    Answer::Invalid { .. } => 1,
+                    _ => 2,
+                }] += 1;
+            }
+            if let Some(trace) = trace {
+                assert_eq!(checked(&encode(&sheet), &trace), Checked::Yes);
+            }
+        }
+    }
+    // Of five budgets 3, 2 and 1 are not below the first three of the counts.
+    assert_eq!(answers, [8 * 6, 6 * 6, 14 * (25 - 6)]);
 }
 
 /// The trace with this history that begins in a state and always goes on in the

@@ -4,6 +4,7 @@
 
 use std::collections::BTreeSet;
 
+use linked::straight::{counted, histories, reply_counts, sequence, straight};
 use linked::{plain, Tables, Verdict};
 use recovery::edges::{self, edges};
 use recovery::encode::encode;
@@ -203,6 +204,100 @@ pub fn many(random: &mut Random) -> Sheet {
     }
 }
 
+/// A routine that comes to the same sets again and again, at one depth or at
+/// another: probes that tell little, detours of different lengths behind which all
+/// but fact 0 is forgotten, and a goal that fails seldom. It has at most so many
+/// facts, and so many actions and branches in a row.
+pub fn repeating(random: &mut Random, facts: usize, row: usize) -> Sheet {
+    let facts = random.between(1, facts) as u8;
+    let number = |random: &mut Random| random.below(facts.into()) as u8;
+    let fact = |random: &mut Random| match random.chance(1, 2) {
+        true => Objective::Fact(number(random)),
+        false => Objective::Fact(number(random)).negate(),
+    };
+    let known = |random: &mut Random| match random.chance(2, 3) {
+        true => Epistemic::Known(fact(random)),
+        false => Epistemic::NotKnown(fact(random)),
+    };
+    let all = |parts: Vec<Objective>| parts.into_iter().reduce(Objective::and);
+    let free = number(random);
+    let kept = |number| Objective::New(number).iff(Objective::Fact(number));
+    let toggled = |number| Objective::New(number).iff(Objective::Fact(number).negate());
+    let freeing = (0..facts).filter(|&number| number != free).map(kept);
+    let of = |told: Objective| Action::Probe(vec![told.clone(), told.negate()]);
+    let told = fact(random);
+    let mut actions = vec![
+        Action::Change(kept(0)),
+        Action::Change(all((0..facts).map(toggled).collect()).unwrap()),
+        Action::Change(all(freeing.collect()).unwrap_or(Objective::True)),
+        of(Objective::Fact(0)),
+        of(told.clone()),
+    ];
+    for _ in 0..3 {
+        let mut replies = match random.below(3) {
+            0 => vec![Objective::True; 2],
+            1 => vec![fact(random).or(fact(random)), fact(random), Objective::True],
+            _ => vec![fact(random), Objective::True],
+        };
+        if random.chance(1, 2) {
+            replies.reverse();
+        }
+        actions.push(Action::Probe(replies));
+    }
+    let act = |random: &mut Random, rest| {
+        let action = match random.chance(1, 4) {
+            true => random.below(3),
+            false => random.between(4, 7),
+        };
+        Program::act(action as u8, rest)
+    };
+    let mut program = Program::End;
+    for _ in 0..random.between(2, row) {
+        let mut side = |most| {
+            let length = random.between(0, most);
+            (0..length).fold(Program::End, |rest, _| act(random, rest))
+        };
+        // Behind a longer side that is searched first the same places come sooner.
+        let (longer, shorter) = (side(4), side(1));
+        let (then, otherwise) = match random.chance(2, 3) {
+            true => (longer, shorter),
+            false => (shorter, longer),
+        };
+        program = match random.below(6) {
+            0..=2 => {
+                let condition = Epistemic::Known(told.clone());
+                let rest = Program::act(0, program);
+                Program::act(4, Program::branch(condition, then, otherwise, rest))
+            }
+            3 => Program::branch(known(random), then, otherwise, program),
+            _ => act(random, program),
+        };
+    }
+    let goal = match random.below(3) {
+        0 => known(random).or(known(random)),
+        _ => Epistemic::NotKnown(all((0..facts).map(|_| fact(random)).collect()).unwrap()),
+    };
+    // Often nothing fails where fact 0 holds, or nothing where it does not.
+    let (goal, program) = match random.below(4) {
+        0 => (goal, program),
+        1 => (
+            Epistemic::NotKnown(Objective::Fact(0)).or(goal),
+            Program::act(3, program),
+        ),
+        _ => (
+            Epistemic::Known(Objective::Fact(0)).or(goal),
+            Program::act(3, program),
+        ),
+    };
+    Sheet {
+        facts,
+        actions,
+        goal,
+        program,
+        ..edges::plain()
+    }
+}
+
 /// The longest sheet, accepted, and the longest trace, of a history that fails.
 pub fn longest() -> [Vec<u8>; 2] {
     let sheet = encode(&Sheet {
@@ -227,81 +322,62 @@ fn wide(leaves: usize) -> Objective {
     }
 }
 
-/// The actions one after the other.
-pub fn sequence(actions: &[u8]) -> Program {
-    followed(actions, Program::End)
-}
-
-fn followed(actions: &[u8], rest: Program) -> Program {
-    actions
-        .iter()
-        .rev()
-        .fold(rest, |rest, &action| Program::act(action, rest))
-}
-
-/// How many replies the actions of a straight program may have, one after the
-/// other, so that it has exactly so many histories.
-fn reply_counts(mut count: u32) -> Vec<u8> {
-    let mut replies = Vec::new();
-    while count > 0 {
-        let most = (1..=8)
-            .rev()
-            .find(|&most| count.is_multiple_of(most))
-            .unwrap();
-        replies.push(most as u8);
-        count = count / most - 1;
-    }
-    replies
-}
-
-/// Action k is a change for 0, else a probe with k + 1 replies, all of them true.
-fn telling_nothing() -> Vec<Action> {
-    let mut actions = vec![Action::Change(Objective::New(0).iff(Objective::Fact(0)))];
-    actions.extend((2..=8).map(|replies| Action::Probe(vec![Objective::True; replies])));
-    actions
-}
-
-fn numbers(replies: &[u8]) -> Vec<u8> {
-    replies.iter().map(|replies| replies - 1).collect()
-}
-
-/// A straight program of probes with these numbers of replies; 1 is a change.
-pub fn straight(replies: &[u8]) -> Sheet {
-    Sheet {
-        actions: telling_nothing(),
-        program: sequence(&numbers(replies)),
-        ..edges::plain()
-    }
-}
-
-/// A valid routine with so many histories.
-pub fn counted(count: u32) -> Sheet {
-    straight(&reply_counts(count))
-}
-
 /// The same by a branch: a probe of the fact, so many histories on the one side,
 /// so many on the other.
-pub fn branched(then: u32, otherwise: u32) -> Sheet {
+pub fn branched(then: u64, otherwise: u64) -> Sheet {
     let mut sheet = counted(then);
+    put_behind_a_probe(&mut sheet, counted(otherwise).program);
+    sheet
+}
+
+/// Puts a probe of fact 0 before the program, which is then for the case that the
+/// fact holds; the other program is for the case that it does not.
+fn put_behind_a_probe(sheet: &mut Sheet, otherwise: Program) {
     let fact = Objective::Fact(0);
     let probe = sheet.actions.len() as u8;
     sheet
         .actions
         .push(Action::Probe(vec![fact.clone(), fact.clone().negate()]));
-    let branch = Program::branch(
-        Epistemic::Known(fact),
-        sheet.program,
-        sequence(&numbers(&reply_counts(otherwise))),
-        Program::End,
-    );
+    let then = std::mem::replace(&mut sheet.program, Program::End);
+    let branch = Program::branch(Epistemic::Known(fact), then, otherwise, Program::End);
     sheet.program = Program::act(probe, branch);
-    sheet
+}
+
+/// A routine with so many histories up to the first that fails, and its trace:
+/// a probe of fact 0; where that holds, histories that pass; else probes with these
+/// numbers of replies, of which the last history alone fails, as in `last_fails`.
+pub fn fails_behind(count: u64, replies: &[u8]) -> (Sheet, Vec<u8>) {
+    // The probe's two replies, and what is behind the second.
+    let failing = 2 + histories(replies) as u64;
+    let mut sheet = counted(count - failing);
+    let probe = sheet.actions.len() as u8;
+    let mut goal = Epistemic::Known(Objective::Fact(0));
+    let mut trace = vec![0, 8 * probe + 1, 0];
+    let mut otherwise = Vec::new();
+    let mut actions = Vec::new();
+    for (number, &most) in (probe + 1..).zip(replies) {
+        let mut told = vec![Objective::True; most.into()];
+        if most > 1 {
+            let fact = Objective::Fact(sheet.facts).negate();
+            sheet.facts += 1;
+            goal = Epistemic::NotKnown(fact.clone()).or(goal);
+            told[usize::from(most) - 1] = fact;
+        }
+        actions.push(Action::Probe(told));
+        otherwise.push(number);
+        // All facts are false throughout.
+        trace.extend([8 * number + most - 1, 0]);
+    }
+    put_behind_a_probe(&mut sheet, sequence(&otherwise));
+    sheet.actions.extend(actions);
+    sheet.goal = goal;
+    (sheet, trace)
 }
 
 /// A routine with so many histories, of which the last alone fails: where every
 /// probe gave its last reply, which alone tells the probe's fact.
 pub fn last_fails(count: u32) -> Sheet {
-    let replies = reply_counts(count);
+    let replies = reply_counts(count.into());
     let mut sheet = edges::plain();
     let mut goal = Epistemic::Known(Objective::False);
     for (number, &most) in replies.iter().enumerate() {
@@ -332,7 +408,7 @@ pub fn counted_lines(count: u32, fails: bool) -> String {
         return format!("valid {count}\n");
     }
     // All facts are false throughout.
-    let replies = reply_counts(count);
+    let replies = reply_counts(count.into());
     let events = replies.iter().zip((0..).step_by(8));
     let steps: String = events
         .map(|(most, action)| format!(" {:02x} 00", action + most - 1))
@@ -345,12 +421,13 @@ pub fn counted_lines(count: u32, fails: bool) -> String {
 pub fn around_a_million() -> Vec<(Vec<u8>, u32, bool)> {
     let mut sheets = Vec::new();
     for count in [999_998, 999_999, 1_000_000, 1_000_001, 1_000_002] {
-        sheets.push((counted(count), count, false));
+        sheets.push((counted(count.into()), count, false));
     }
     for count in [999_999, 1_000_000, 1_000_001] {
         // A tail of changes on the other side of a branch, and a large number there.
         for otherwise in [0, 1, 5, 262_142] {
-            sheets.push((branched(count - 2 - otherwise, otherwise), count, false));
+            let then = count - 2 - otherwise;
+            sheets.push((branched(then.into(), otherwise.into()), count, false));
         }
         sheets.push((last_fails(count), count, true));
     }
@@ -370,9 +447,7 @@ pub fn around_a_million() -> Vec<(Vec<u8>, u32, bool)> {
         twos(64),
         vec![8; 64],
     ] {
-        let count = replies.iter().rev().fold(0u32, |count, &most| {
-            count.saturating_add(1).saturating_mul(most.into())
-        });
+        let count = u32::try_from(histories(&replies)).unwrap_or(u32::MAX);
         sheets.push((straight(&replies), count, false));
     }
     sheets

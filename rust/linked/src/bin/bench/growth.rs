@@ -1,0 +1,168 @@
+//! How the time of the search grows with the number of histories and with the
+//! number of different places, an action node and a set each, that they lead to.
+
+use std::hint::black_box;
+
+use linked::{plain, Tables, Verdict};
+use recovery::encode::encode;
+use recovery::sheet::{Epistemic, Objective, Sheet, MAX_TRACE};
+
+use crate::picture::{log_log, Line};
+use crate::routines::{branching, Routine};
+use crate::verifying::{Verify, BEFORE};
+use crate::{least, Call};
+
+/// More histories than these are not visited one by one.
+const MOST_ONE_BY_ONE: u32 = 100_000_000;
+
+/// Valid routines of the same kind, by a number.
+struct Family {
+    name: &'static str,
+    members: Vec<(u8, Sheet)>,
+}
+
+fn families() -> Vec<Family> {
+    let mut routine = Routine::new();
+    // No change is used, and without them little time is taken off a call's.
+    routine.actions.truncate(usize::from(Routine::STAY));
+    let valid = |numbers: Vec<u8>| routine.valid(&numbers);
+    let overlaps = |k| (0..k).map(|i| Routine::OVERLAP + i % 8).collect();
+    let facts = || (0..8).map(|i| Routine::FACT + i);
+    let nothing = |k| vec![Routine::NOTHING; usize::from(k)];
+    let passes = || Epistemic::Known(Objective::True);
+    vec![
+        Family {
+            name: "k probes that tell nothing",
+            members: (2..=30)
+                .step_by(2)
+                .map(|k| (k, valid(nothing(k))))
+                .collect(),
+        },
+        Family {
+            name: "8 facts probed, then k such probes",
+            members: (0..=20)
+                .step_by(2)
+                .map(|k| (k, valid(facts().chain(nothing(k)).collect())))
+                .collect(),
+        },
+        Family {
+            name: "k probes and branches of 4 atoms",
+            members: (1..=10)
+                .map(|k| (k, routine.sheet(passes(), branching(k))))
+                .collect(),
+        },
+        Family {
+            name: "k overlapping probes of 3 replies",
+            members: (2..=16).map(|k| (k, valid(overlaps(k)))).collect(),
+        },
+    ]
+}
+
+/// Prints a table of all families, and writes a picture to the path if there is one.
+pub fn rows(path: Option<String>) {
+    println!("| Family | k | histories | places | places searched | histories visited | proved, µs | before, µs | Rust, tables, µs |");
+    println!("|---|---|---|---|---|---|---|---|---|");
+    let mut lines = Vec::new();
+    for family in families() {
+        let mut line = Line {
+            name: family.name,
+            solid: Vec::new(),
+            dashed: Vec::new(),
+        };
+        for (k, sheet) in family.members {
+            let grown = measure(&sheet);
+            let micros = |time: Option<f64>| {
+                time.map_or("-".to_string(), |time| format!("{:.1}", time / 1e3))
+            };
+            println!(
+                "| {} | {k} | {} | {} | {} | {} | {} | {} | {} |",
+                family.name,
+                grown.histories,
+                grown.places,
+                grown.searched,
+                grown.visited,
+                micros(Some(grown.proved)),
+                micros(grown.before),
+                micros(grown.tables)
+            );
+            // The proved search without a memory, or else the one in Rust. A time that
+            // was lost in the measuring has no place on the picture.
+            let point = |time: f64| (time > 0.0).then_some((f64::from(grown.histories), time));
+            line.solid.extend(point(grown.proved));
+            line.dashed
+                .extend(grown.before.or(grown.tables).and_then(point));
+        }
+        lines.push(line);
+    }
+    if let Some(path) = path {
+        std::fs::write(
+            &path,
+            log_log(
+                "number of histories",
+                "time of the search (of a call, less that of reading and tables)",
+                &lines,
+            ),
+        )
+        .unwrap();
+    }
+}
+
+struct Grown {
+    histories: u32,
+    /// Different places that they lead to, and those searched: not recalled.
+    places: usize,
+    searched: u64,
+    /// Histories visited one by one.
+    visited: u64,
+    /// Times of the search, in nanoseconds: of a call less that of `prepare`, which
+    /// leaves the clearing of the memories in it.
+    proved: f64,
+    before: Option<f64>,
+    /// Of the search alone.
+    tables: Option<f64>,
+}
+
+fn measure(sheet: &Sheet) -> Grown {
+    let bytes = &encode(sheet);
+    let budget = u32::MAX;
+    let verdict = linked::verify(bytes, budget, &mut [0; MAX_TRACE]).unwrap();
+    let Verdict::Valid { count } = verdict else {
+        panic!("{verdict:?}")
+    };
+    let (mut tables, mut start) = (Tables::zeroed(), [0; 4]);
+    assert_eq!(linked::prepare(bytes, &mut tables, &mut start), 0);
+    let places = plain::places(&tables, &start, budget);
+    let (found, counts) = plain::verify_counting(&tables, &start, budget, &mut [0; MAX_TRACE]);
+    assert_eq!(found, verdict);
+
+    let call = |verify: Verify| -> Call {
+        Box::new(move || {
+            let found = verify(black_box(bytes), budget, &mut [0; MAX_TRACE]);
+            assert_eq!(found, Ok(verdict));
+        })
+    };
+    let over_tables: Call = Box::new(|| {
+        let found = plain::verify(black_box(&tables), &start, budget, &mut [0; MAX_TRACE]);
+        assert_eq!(found, verdict);
+    });
+    let mut prepared = Tables::zeroed();
+    let prepare: Call = Box::new(|| {
+        linked::prepare(black_box(bytes), &mut prepared, &mut [0; 4]);
+    });
+    let [proved, before, tables, prepare] = least([
+        Some(call(linked::verify)),
+        BEFORE.map(call).filter(|_| count <= MOST_ONE_BY_ONE),
+        Some(over_tables).filter(|_| count <= MOST_ONE_BY_ONE),
+        Some(prepare),
+    ]);
+    let search = |time: f64| time - prepare.unwrap();
+    Grown {
+        histories: count,
+        places,
+        searched: counts.looked - counts.hits,
+        visited: counts.visited,
+        proved: search(proved.unwrap()),
+        before: before.map(search),
+        tables,
+    }
+}
