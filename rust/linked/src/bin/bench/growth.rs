@@ -7,7 +7,7 @@ use linked::{plain, Tables, Verdict};
 use recovery::encode::encode;
 use recovery::sheet::{Epistemic, Objective, Sheet, MAX_TRACE};
 
-use crate::picture::{log_log, Line};
+use crate::picture::{page, Line};
 use crate::routines::{branching, Routine};
 use crate::verifying::{Verify, BEFORE};
 use crate::{least, Call};
@@ -62,13 +62,14 @@ fn families() -> Vec<Family> {
 pub fn rows(path: Option<String>) {
     println!("| Family | k | histories | places | places searched | histories visited | proved, µs | before, µs | Rust, tables, µs |");
     println!("|---|---|---|---|---|---|---|---|---|");
-    let mut lines = Vec::new();
+    let mut by_histories = Vec::new();
+    let mut by_places = Vec::new();
     for family in families() {
-        let mut line = Line {
+        let [mut histories, mut places] = [(); 2].map(|()| Line {
             name: family.name,
             solid: Vec::new(),
             dashed: Vec::new(),
-        };
+        });
         for (k, sheet) in family.members {
             let grown = measure(&sheet);
             let micros = |time: Option<f64>| {
@@ -85,25 +86,29 @@ pub fn rows(path: Option<String>) {
                 micros(grown.before),
                 micros(grown.tables)
             );
-            // The proved search without a memory, or else the one in Rust. A time that
-            // was lost in the measuring has no place on the picture.
-            let point = |time: f64| (time > 0.0).then_some((f64::from(grown.histories), time));
-            line.solid.extend(point(grown.proved));
-            line.dashed
-                .extend(grown.before.or(grown.tables).and_then(point));
+            // A time that was lost in the measuring has no place on the picture.
+            let point = |number: f64, time: f64| (time > 0.0).then_some((number, time));
+            let count = f64::from(grown.histories);
+            histories.solid.extend(point(count, grown.proved));
+            places
+                .solid
+                .extend(point(grown.places as f64, grown.proved));
+            // The proved search without a memory, or else the one in Rust.
+            let without = grown.before.or(grown.tables);
+            histories
+                .dashed
+                .extend(without.and_then(|time| point(count, time)));
         }
-        lines.push(line);
+        by_histories.push(histories);
+        by_places.push(places);
     }
     if let Some(path) = path {
-        std::fs::write(
-            &path,
-            log_log(
-                "number of histories",
-                "time of the search (of a call, less that of reading and tables)",
-                &lines,
-            ),
-        )
-        .unwrap();
+        let charts = [
+            ("number of histories", by_histories),
+            ("number of different places", by_places),
+        ];
+        let up = "time of the search (of a call, less that of reading and tables)";
+        std::fs::write(&path, page(up, &charts)).unwrap();
     }
 }
 

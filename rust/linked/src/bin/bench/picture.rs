@@ -17,8 +17,27 @@ const BOTTOM: f64 = 500.0;
 
 const COLOURS: [&str; 4] = ["#0072b2", "#d55e00", "#00875a", "#a0479c"];
 
+/// Charts one below the other, each of times by the number that it names.
+pub fn page(up: &str, charts: &[(&str, Vec<Line>)]) -> String {
+    let height = HEIGHT * charts.len() as f64;
+    let mut svg = format!(
+        r##"<svg xmlns="http://www.w3.org/2000/svg" viewBox="0 0 {WIDTH} {height}" width="{WIDTH}" height="{height}" font-family="sans-serif" font-size="13" fill="#222">
+<rect width="{WIDTH}" height="{height}" fill="#fdfdfb"/>
+"##
+    );
+    for (place, (across, lines)) in (0..).zip(charts) {
+        let top = HEIGHT * f64::from(place);
+        let chart = log_log(across, up, lines);
+        svg.push_str(&format!(
+            "<g transform=\"translate(0 {top})\">\n{chart}</g>\n"
+        ));
+    }
+    svg.push_str("</svg>\n");
+    svg
+}
+
 /// Both axes by powers of ten, which the points lie between.
-pub fn log_log(across: &str, up: &str, lines: &[Line]) -> String {
+fn log_log(across: &str, up: &str, lines: &[Line]) -> String {
     let points = || {
         lines
             .iter()
@@ -29,11 +48,7 @@ pub fn log_log(across: &str, up: &str, lines: &[Line]) -> String {
     let x = |number: f64| LEFT + (RIGHT - LEFT) * share(number, &numbers);
     let y = |time: f64| BOTTOM - (BOTTOM - TOP) * share(time, &times);
 
-    let mut svg = format!(
-        r##"<svg xmlns="http://www.w3.org/2000/svg" viewBox="0 0 {WIDTH} {HEIGHT}" width="{WIDTH}" height="{HEIGHT}" font-family="sans-serif" font-size="13" fill="#222">
-<rect width="{WIDTH}" height="{HEIGHT}" fill="#fdfdfb"/>
-"##
-    );
+    let mut svg = String::new();
     let mut add = |element: String| {
         svg.push_str(&element);
         svg.push('\n');
@@ -70,11 +85,11 @@ pub fn log_log(across: &str, up: &str, lines: &[Line]) -> String {
         }
     }
 
-    // The legend, where few histories take long: nothing does.
-    let kinds = [
-        ("#222", "none", "with the memory"),
-        ("#222", "6 4", "without"),
-    ];
+    // The legend, where a small number takes long: nothing does.
+    let mut kinds = vec![("#222", "none", "with the memory")];
+    if lines.iter().any(|line| !line.dashed.is_empty()) {
+        kinds.push(("#222", "6 4", "without"));
+    }
     let names = lines.iter().zip(COLOURS);
     let entries = names.map(|(line, colour)| (colour, "none", line.name));
     add(format!(
@@ -89,7 +104,6 @@ pub fn log_log(across: &str, up: &str, lines: &[Line]) -> String {
         add(stroke(&ends, colour, dashes));
         add(text(LEFT + 68.0, at + 4.0, "start", name));
     }
-    svg.push_str("</svg>\n");
     svg
 }
 

@@ -214,14 +214,18 @@ fn random_routine(limit: u32) -> Sheet {
     sheets.max_by_key(|sheet| count(sheet, limit)).unwrap()
 }
 
-/// Those with the most histories among so many random routines that are valid with
-/// the greatest budget.
+/// Of so many random routines the valid ones with the most histories, within the
+/// greatest budget.
 fn most_histories(size: &Size, of: usize, chosen: usize) -> Vec<Sheet> {
     let mut random = Random::new(10);
     let sheets = (0..of).map(|_| good(&mut random, size));
-    let mut counted: Vec<(u32, Sheet)> = sheets
-        .map(|sheet| (count(&sheet, u32::MAX), sheet))
-        .collect();
+    let valid = sheets.filter_map(|sheet| {
+        match linked::verify(&encode(&sheet), u32::MAX, &mut [0; MAX_TRACE]) {
+            Ok(Verdict::Valid { count }) => Some((count, sheet)),
+            _ => None,
+        }
+    });
+    let mut counted: Vec<(u32, Sheet)> = valid.collect();
     counted.sort_by_key(|&(count, _)| Reverse(count));
     let sheets = counted.into_iter().map(|(_, sheet)| sheet);
     sheets.take(chosen).collect()
