@@ -1,5 +1,5 @@
 -- What passes from one count on passes from every count on, with as many histories, until the budget is exceeded, and with more room for actions: so what is remembered of a place serves every
--- later visit. Assumes nothing.
+-- later visit that has as much room or more. Assumes nothing.
 use Prim.Native.Nat.{ℕ, zero, suc, _+_, _*_, _-_, _≤_, _<_}
 use mathlib.Core.Path.{_≡_, refl, sym, ap, subst, _∙_}
 use mathlib.Core.List.{List, [], _∷_}
@@ -23,7 +23,7 @@ use Rattle.verifier.specs.declared.memo.Recalled.{Recalled}
 use Rattle.verifier.specs.declared.search.Searched.{Searched}
 use Rattle.verifier.specs.Search.{Found, passed, failed, over, behind, andThen, eachReply, atPlace, visit, answered, searched, searchedOf, SearchedBy}
 use Rattle.verifier.specs.Memo.{slotMost, slotSize, slotAt, slotWords, serves, recalled, reaching, SlotSound, Sound}
-use Rattle.verifier.proofs.PathLaws.{visit-by, repliesFrom, replies-all, searched-passed, searched-act, here-passed, here-over}
+use Rattle.verifier.proofs.PathLaws.{visit-by, repliesFrom, replies-all, searched-passed, searched-answered, here-passed, here-over}
 
 module _ (budget : ℕ) where
   reaching-in : (n : ℕ) → n ≤ budget → reaching budget n ≡ passed n
@@ -163,12 +163,6 @@ module _ (budget : ℕ) where
         answered-carries (From left at) (From other at) (search-carries left other l at) set action c n
         (ap (λ (k : ℕ). eachReply (Visits (From left at) set action) (below k) c) (sym e) ∙ sym (replies-all heads nodes sets budget (From left at) set action m c) ∙ p)
 
-    -- At an action the search is that through its replies.
-    act-answered : (left less at : ℕ) (set : States) (c node action : ℕ) → settled nodes sets set at ≡ Place.Act node action → left ≡ suc less → From left at set c ≡ Answered (From less (node + 1)) set action c
-    unfolding answered
-    act-answered left less at set c node action place s =
-        searched-act heads nodes sets budget left at set c node action place less (headAt heads action .count) s refl ∙ replies-all heads nodes sets budget (From less (node + 1)) set action (headAt heads action .count) c
-
 -- Two slots are the same if their words are.
 slot-by : (a b : Slot) → ((i : ℕ) → i < slotSize → getD (slotWords a) i 0 ≡ getD (slotWords b) i 0) → a ≡ b
 unfolding slotWords words
@@ -193,11 +187,11 @@ slot-word memory j (suc (suc (suc (suc (suc (suc zero)))))) l = refl
 slot-word memory j (suc (suc (suc (suc (suc (suc (suc zero))))))) l = refl
 slot-word memory j (suc (suc (suc (suc (suc (suc (suc (suc i)))))))) l = absurd (omega arith)
 
-module _ (memory : List ℕ) (j : ℕ) (k : Slot) where
-  words-eight : length (slotWords k) ≡ slotSize
-  unfolding slotWords words
-  words-eight = refl
+words-eight : (k : Slot) → length (slotWords k) ≡ slotSize
+unfolding slotWords words
+words-eight k = refl
 
+module _ (memory : List ℕ) (j : ℕ) (k : Slot) where
   abbrev after : List ℕ
   after = write memory (slotSize * j) (slotWords k)
 
@@ -205,13 +199,13 @@ module _ (memory : List ℕ) (j : ℕ) (k : Slot) where
   slot-written : slotSize * j + slotSize ≤ length memory → slotAt after j ≡ k
   slot-written l =
       slot-by (slotAt after j) k
-      (λ i m. slot-word after j i m ∙ write-back memory (slotSize * j) (slotWords k) (omega (arith, l, words-eight)) i (omega (arith, m, words-eight)))
+      (λ i m. slot-word after j i m ∙ write-back memory (slotSize * j) (slotWords k) (omega (arith, l, words-eight k)) i (omega (arith, m, words-eight k)))
 
   slot-other : (i : ℕ) → (i ≡ j → ⊥) → slotAt after i ≡ slotAt memory i
   slot-other i ne =
       slot-by (slotAt after i) (slotAt memory i)
       (λ n l. slot-word after i n l
-      ∙ write-elsewhere memory (slotSize * j) (slotWords k) (slotSize * i + n) (λ m h e. omega (arith, l, h, e, words-eight, ne))
+      ∙ write-elsewhere memory (slotSize * j) (slotWords k) (slotSize * i + n) (λ m h e. omega (arith, l, h, e, words-eight k, ne))
       ∙ sym (slot-word memory i n l))
 
 -- What is recalled.
@@ -226,11 +220,11 @@ module _ (k : Slot) (set : States) (onward action depth : ℕ) where
 
   -- A slot that serves is the place's own, but for its depth.
   record Told (v : ℕ) : Type 0 where
-    pub same-set : k .set ≡ set
-    pub same-node : k .onward ≡ onward
-    pub same-action : k .action ≡ action
-    pub room : depth ≤ k .depth
-    pub number : k .behind ≡ v
+    same-set : k .set ≡ set
+    same-node : k .onward ≡ onward
+    same-action : k .action ≡ action
+    room : depth ≤ k .depth
+    number : k .behind ≡ v
 
   serves-told : serves k set onward action depth ≡ true → Told (k .behind)
   unfolding serves
@@ -336,5 +330,5 @@ module _ (heads nodes sets : List ℕ) (budget : ℕ) where
       → Sound heads nodes sets budget memory → j < slotMost → recalled (slotAt memory j) set (node + 1) action depth ≡ Recalled.Passed v
       → searched heads nodes sets budget (64 - depth) at set c ≡ reaching budget (c + v)
   recalled-found depth at c node action set room m place memory j v sound l e =
-      act-answered budget heads nodes sets (64 - depth) (64 - (depth + 1)) at set c node action place (omega (arith, room))
+      searched-answered heads nodes sets budget (64 - depth) at set c node action place (64 - (depth + 1)) (omega (arith, room))
       ∙ told-answered depth (node + 1) set action room (slotAt memory j) v c (sound .slots j l) (recalled-told (slotAt memory j) set (node + 1) action depth v e) (omega arith) m

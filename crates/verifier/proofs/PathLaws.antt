@@ -17,7 +17,7 @@ use Rattle.routine.specs.Memory.{nodeMost, headAt}
 use Rattle.progression.specs.declared.place.Place.{Place}
 use Rattle.progression.specs.Machine.{settled, stepped, Inside}
 use Rattle.verifier.specs.declared.search.Searched.{Searched}
-use Rattle.verifier.specs.Search.{Found, passed, failed, over, behind, andThen, eachReply, atPlace, visit, searched, pathByte, pathBytes, searchedOf, SearchedBy}
+use Rattle.verifier.specs.Search.{Found, passed, failed, over, behind, andThen, eachReply, atPlace, visit, answered, searched, pathByte, pathBytes, searchedOf, SearchedBy}
 
 -- What is found stays within the budget.
 unfoldable pub Within : ℕ → Found → Type 0
@@ -113,13 +113,13 @@ module _ (heads nodes sets : List ℕ) (budget : ℕ) where
   unfolding searched
   searched-passed zero at set c e = ap (λ (p : Place). atPlace p (λ node action. over) c) e
   searched-passed (suc left) at set c e =
-      ap (λ (p : Place). atPlace p (λ node action. eachReply (visit heads nodes sets budget (searched heads nodes sets budget left (node + 1)) set action) (below (headAt heads action .count)) c) c) e
+      ap (λ (p : Place). atPlace p (λ node action. answered heads nodes sets budget (searched heads nodes sets budget left (node + 1)) set action c) c) e
 
   pub searched-failed : (left at : ℕ) (set : States) (c : ℕ) → settled nodes sets set at ≡ Place.End false → searched heads nodes sets budget left at set c ≡ failed c []
   unfolding searched
   searched-failed zero at set c e = ap (λ (p : Place). atPlace p (λ node action. over) c) e
   searched-failed (suc left) at set c e =
-      ap (λ (p : Place). atPlace p (λ node action. eachReply (visit heads nodes sets budget (searched heads nodes sets budget left (node + 1)) set action) (below (headAt heads action .count)) c) c) e
+      ap (λ (p : Place). atPlace p (λ node action. answered heads nodes sets budget (searched heads nodes sets budget left (node + 1)) set action c) c) e
 
   module _ (left at : ℕ) (set : States) (c node action : ℕ) (place : settled nodes sets set at ≡ Place.Act node action) where
     pub searched-over : left ≡ 0 → searched heads nodes sets budget left at set c ≡ over
@@ -127,14 +127,18 @@ module _ (heads nodes sets : List ℕ) (budget : ℕ) where
     searched-over z =
         ap (λ (k : ℕ). searched heads nodes sets budget k at set c) z ∙ ap (λ (p : Place). atPlace p (λ n a. over) c) place
 
+    pub searched-answered : (less : ℕ) → left ≡ suc less → searched heads nodes sets budget left at set c ≡ answered heads nodes sets budget (searched heads nodes sets budget less (node + 1)) set action c
+    unfolding searched
+    searched-answered less s =
+        ap (λ (k : ℕ). searched heads nodes sets budget k at set c) s
+        ∙ ap (λ (p : Place). atPlace p (λ n a. answered heads nodes sets budget (searched heads nodes sets budget less (n + 1)) set a c) c) place
+
     pub searched-act : (less m : ℕ) → left ≡ suc less → m ≡ headAt heads action .count
         → searched heads nodes sets budget left at set c ≡ repliesFrom (searched heads nodes sets budget less (node + 1)) set action m 0 c
-    unfolding searched repliesFrom
+    unfolding answered repliesFrom
     searched-act less m s e =
         let z : headAt heads action .count ≡ m - 0 = omega (arith, e) in
-        ap (λ (k : ℕ). searched heads nodes sets budget k at set c) s
-        ∙ ap (λ (p : Place). atPlace p (λ n a. eachReply (visit heads nodes sets budget (searched heads nodes sets budget less (n + 1)) set a) (below (headAt heads a .count)) c) c) place
-        ∙ ap (λ (k : ℕ). eachReply (visit heads nodes sets budget (searched heads nodes sets budget less (node + 1)) set action) (upFrom 0 k) c) z
+        searched-answered less s ∙ ap (λ (k : ℕ). eachReply (visit heads nodes sets budget (searched heads nodes sets budget less (node + 1)) set action) (upFrom 0 k) c) z
 
   visit-within : (onward : States → ℕ → Found) → ((s : States) (n : ℕ) → n ≤ budget → Within budget (onward s n))
       → (set : States) (action r c : ℕ) → c ≤ budget → Within budget (visit heads nodes sets budget onward set action r c)
@@ -163,7 +167,7 @@ module _ (heads nodes sets : List ℕ) (budget : ℕ) where
       go (settled nodes sets set at) (λ node s n. searched-stays left (node + 1) s n)
     where
       go : (p : Place) → ((node : ℕ) (s : States) (n : ℕ) → n ≤ budget → Within budget (searched heads nodes sets budget left (node + 1) s n))
-          → Within budget (atPlace p (λ node action. eachReply (visit heads nodes sets budget (searched heads nodes sets budget left (node + 1)) set action) (below (headAt heads action .count)) c) c)
+          → Within budget (atPlace p (λ node action. answered heads nodes sets budget (searched heads nodes sets budget left (node + 1)) set action c) c)
       go (Place.End true) h = k
       go (Place.End false) h = k
       go (Place.Act node action) h =

@@ -1,5 +1,5 @@
 // What the search remembers of places from which everything passed, in a memory that is lent to it. It makes the search
-// quicker and changes nothing that it finds, so any slot may be overwritten at any time.
+// quicker and changes nothing that it finds.
 use crate::limits::MEMO_WORDS;
 use crate::limits::SLOT_WORDS;
 use crate::limits::SLOTS;
@@ -26,21 +26,25 @@ pub(crate) enum Recalled {
     Nothing,
 }
 
-// Two words in one. (The factor tells the words of a set apart that are alike.)
+// Numbers below this are half as long as a word: the product of two of them fits one.
+const HALF: u64 = 0x1_0000_0000;
+
+// Two words in one. The second counts twice, so that two words exchanged, or both the same, make another.
 fn joined(a: u64, b: u64) -> u64 {
     wrapping_add_u64(a, wrapping_add_u64(b, b))
 }
 
-// The slot for a set and a node. Any number would do; this one spreads places over the slots. (A product of two numbers
-// below 2^32 fits a word.)
+// The slot for a set and a node. Any number would do; this one spreads places over the slots: of each half's product it
+// takes the bits on which most bits of the half bear, also where the half is a small number. (`slot_number` of
+// rust/linked/src/plain.rs is the same; they change together.)
 pub(crate) fn slot_number(set: States, onward: usize) -> usize
     ensures { λ r. ⌜ r < slotMost ⌝ }
 {
     let x = joined(set.w0, set.w1);
     let y = wrapping_add_u64(joined(set.w2, set.w3), onward as u64);
-    let a = ((x % 0x1_0000_0000) * 0x9e37_79b1) ^ ((x / 0x1_0000_0000) * 0x85eb_ca6b);
-    let b = ((y % 0x1_0000_0000) * 0xc2b2_ae35) ^ ((y / 0x1_0000_0000) * 0x27d4_eb2f);
-    ((a ^ b) / 0x1_0000_0000 % SLOTS) as usize
+    let a = (x % HALF * 0x9e37_79b1) ^ (x / HALF * 0x85eb_ca6b);
+    let b = (y % HALF * 0xc2b2_ae35) ^ (y / HALF * 0x27d4_eb2f);
+    ((a ^ b) / 0x100_0000 % SLOTS) as usize
 }
 
 // Slot j.
@@ -63,7 +67,7 @@ fn slot_at(memo: &[u64; MEMO_WORDS], j: usize) -> Slot
     }
 }
 
-// What slot j tells of a place: that after `depth` actions, the states of a set being possible, an action comes whose
+// What slot j tells of a place: after `depth` actions, the states of a set being possible, an action comes whose
 // replies lead on to node `onward`. What was found with less room for actions holds with more.
 pub(crate) fn recall(
     memo: &[u64; MEMO_WORDS],
@@ -89,7 +93,7 @@ pub(crate) fn recall(
     Recalled::Nothing
 }
 
-// Writes slot j.
+// Writes slot j. (The place goes on by one, as in `write`.)
 pub(crate) fn remember(memo: &mut [u64; MEMO_WORDS], j: usize, slot: Slot)
     requires { ⌜ j < slotMost ⌝ }
     ensures { λ r. ⌜ now (memo .exit) ≡ write (now (memo .entry)) (slotSize * j) (slotWords slot) ⌝ }

@@ -99,6 +99,10 @@ extern "C" {
     ) -> u8;
 }
 
+/// `recovery_verify`, or that of an earlier commit.
+type LinkedVerify =
+    unsafe extern "C" fn(*const u8, usize, u32, *mut u8, usize, &mut [u64; 3]) -> u8;
+
 /// The memory that is lent for a sheet's tables.
 #[derive(Clone, Debug, PartialEq, Eq)]
 pub struct Tables {
@@ -195,47 +199,43 @@ pub fn settle(tables: &Tables, set: &Words, at: usize) -> Place {
 /// The verdict, or the number of the refusal. The memory of an invalid sheet
 /// begins with the least failing trace.
 pub fn verify(bytes: &[u8], budget: u32, trace: &mut [u8]) -> Result<Verdict, u8> {
-    let mut verdict = [0; 3];
-    match verify_words(bytes, budget, trace, &mut verdict) {
-        0 => Ok(verdict_of(verdict)),
-        number => Err(number),
-    }
+    verdict_by(recovery_verify, bytes, budget, trace)
+}
+
+/// The same by the library of an earlier commit.
+#[cfg(feature = "before")]
+pub fn verify_before(bytes: &[u8], budget: u32, trace: &mut [u8]) -> Result<Verdict, u8> {
+    verdict_by(before_verify, bytes, budget, trace)
 }
 
 /// The same in numbers: 0 and the verdict's three words, or the refusal's number.
 pub fn verify_words(bytes: &[u8], budget: u32, trace: &mut [u8], verdict: &mut [u64; 3]) -> u8 {
-    // SAFETY: as above.
-    unsafe {
-        recovery_verify(
-            bytes.as_ptr(),
-            bytes.len(),
-            budget,
-            trace.as_mut_ptr(),
-            trace.len(),
-            verdict,
-        )
-    }
+    words_by(recovery_verify, bytes, budget, trace, verdict)
 }
 
-/// The verdict of the library of an earlier commit, like `verify`.
-#[cfg(feature = "before")]
-pub fn verify_before(bytes: &[u8], budget: u32, trace: &mut [u8]) -> Result<Verdict, u8> {
+fn verdict_by(
+    verify: LinkedVerify,
+    bytes: &[u8],
+    budget: u32,
+    trace: &mut [u8],
+) -> Result<Verdict, u8> {
     let mut verdict = [0; 3];
-    // SAFETY: as above.
-    let number = unsafe {
-        before_verify(
-            bytes.as_ptr(),
-            bytes.len(),
-            budget,
-            trace.as_mut_ptr(),
-            trace.len(),
-            &mut verdict,
-        )
-    };
-    match number {
+    match words_by(verify, bytes, budget, trace, &mut verdict) {
         0 => Ok(verdict_of(verdict)),
         number => Err(number),
     }
+}
+
+fn words_by(
+    verify: LinkedVerify,
+    bytes: &[u8],
+    budget: u32,
+    trace: &mut [u8],
+    verdict: &mut [u64; 3],
+) -> u8 {
+    let (memory, length) = (trace.as_mut_ptr(), trace.len());
+    // SAFETY: as above.
+    unsafe { verify(bytes.as_ptr(), bytes.len(), budget, memory, length, verdict) }
 }
 
 fn verdict_of(words: [u64; 3]) -> Verdict {

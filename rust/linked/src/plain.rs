@@ -373,7 +373,9 @@ impl Remember for Slots {
     }
 }
 
-/// The slot for a set and a node, the same as the proved search has.
+/// The slot for a set and a node. It is `slot_number` of the proved search
+/// (`crates/verifier/src/memo.rt`), so that like is compared with like; nothing
+/// checks that, and they change together.
 fn slot_number(set: &Words, onward: usize) -> usize {
     let joined = |a: u64, b: u64| a.wrapping_add(b.wrapping_mul(2));
     let x = joined(set[0], set[1]);
@@ -384,7 +386,7 @@ fn slot_number(set: &Words, onward: usize) -> usize {
         ^ (high(x) * 0x85eb_ca6b)
         ^ (low(y) * 0xc2b2_ae35)
         ^ (high(y) * 0x27d4_eb2f);
-    high(mixed) as usize % SLOTS
+    (mixed / (1 << 24)) as usize % SLOTS
 }
 
 /// What a search with slots did.
@@ -394,11 +396,11 @@ pub struct Counts {
     pub visited: u64,
     /// Action nodes come to, each a look-up.
     pub looked: u64,
-    /// Look-ups that told how many histories are behind the place,
+    /// Look-ups that told how many histories are behind the place.
     pub hits: u64,
-    /// of those the ones of a place remembered at a greater depth,
+    /// Those hits at which the place was remembered at a greater depth.
     pub hits_above: u64,
-    /// and look-ups that told nothing since the place was remembered at a smaller one.
+    /// Look-ups that told nothing since the place was remembered at a smaller depth.
     pub misses_below: u64,
 }
 

@@ -48,3 +48,14 @@ pub fn straight(replies: &[u8]) -> Sheet {
 pub fn counted(count: u64) -> Sheet {
     straight(&reply_counts(count))
 }
+
+/// So many probes of one fact, of three replies of which one tells it and two tell
+/// nothing, and a goal that always holds: few places, all of them of small numbers.
+pub fn seldom_told(probes: usize) -> Sheet {
+    let replies = vec![Objective::True, Objective::Fact(0), Objective::True];
+    Sheet {
+        actions: vec![Action::Probe(replies)],
+        program: sequence(&vec![0; probes]),
+        ..edges::plain()
+    }
+}

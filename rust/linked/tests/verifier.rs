@@ -11,7 +11,7 @@ use common::{
     BUDGET, FEW,
 };
 use linked::plain::{self, Counts};
-use linked::straight::{counted, histories, reply_counts, straight};
+use linked::straight::{counted, histories, reply_counts, seldom_told, straight};
 use linked::{check, print, verify, verify_words, Place, Tables, Verdict, Words, LINES};
 use recovery::check::Checked;
 use recovery::encode::encode;
@@ -246,6 +246,30 @@ fn places_one_by_one() {
     assert!(compared >= 1000 && fewer >= 100, "{compared} {fewer}");
 }
 
+/// As long as a routine has fewer places than there are slots, few of them are
+/// searched twice, also where their sets and nodes are small numbers.
+#[test]
+fn few_places_are_searched_again() {
+    let mut random = Random::new(58);
+    let (mut tables, mut memory) = (Tables::zeroed(), [0; MAX_TRACE]);
+    let mut sheets: Vec<Sheet> = (1..=64).map(seldom_told).collect();
+    sheets.extend((0..2000).map(|_| repeating(&mut random, 3, 16)));
+    let (mut compared, mut most) = (0, 0);
+    for sheet in &sheets {
+        let start = plain::prepare(sheet, &mut tables);
+        let places = plain::places(&tables, &start, u32::MAX) as u64;
+        let (_, counts) = plain::verify_counting(&tables, &start, u32::MAX, &mut memory);
+        if places > 128 || counts.misses_below > 0 {
+            continue;
+        }
+        let searched = counts.looked - counts.hits;
+        assert!(searched <= 3 * places, "{searched} for {places}: {sheet:?}");
+        compared += 1;
+        most = most.max(places);
+    }
+    assert!(compared >= 500 && most >= 100, "{compared} {most}");
+}
+
 fn add(sum: &mut Counts, counts: Counts) {
     sum.visited += counts.visited;
     sum.looked += counts.looked;
@@ -385,7 +409,8 @@ fn every_budget_of_repeated_sets() {
 }
 
 /// Sheets on which the search recalls what is behind a place and then comes to a
-/// history that fails, behind it in the order.
+/// history that fails, behind it in the order. (The look-ups are counted in the
+/// Rust search with the same memory; the proved one doesn't tell its own.)
 #[test]
 fn failures_behind_remembered_places() {
     let mut random = Random::new(55);
@@ -397,11 +422,11 @@ fn failures_behind_remembered_places() {
         let (facts, row) = *random.pick(&[(2, 8), (2, 8), (2, 8), (3, 10), (4, 14), (6, 16)]);
         let sheet = repeating(&mut random, facts, row);
         let bytes = encode(&sheet);
-        if linked::read(&bytes) != 0 {
+        if recovery::read::read(&bytes).is_err() {
             continue;
         }
         let start = plain::prepare(&sheet, &mut tables);
-        let memory = &mut [0; MAX_TRACE];
+        let memory = &mut [7; MAX_TRACE];
         let (verdict, counts) = plain::verify_counting(&tables, &start, 1000, memory);
         let Verdict::Invalid { count, length } = verdict else {
             continue;
@@ -418,7 +443,7 @@ fn failures_behind_remembered_places() {
             (u32::MAX, expected),
         ] {
             assert_eq!(compare_by_tree(&bytes, budget, &mut random), expected);
-            let mut shown = [0; MAX_TRACE];
+            let mut shown = [7; MAX_TRACE];
             let verdict = plain::verify_remembering(&tables, &start, budget, &mut shown);
             assert_eq!(common::answer(verdict), expected);
             // What was counted was the search that is compared.

@@ -39,8 +39,8 @@ impl Case {
 
     /// What the proved verifier is compared with. Up to `FEW` histories or a budget
     /// of `FEW` that is `recovery::verify`, by the sheet's tree. Beyond, where the
-    /// tree may take long, it is `plain::verify`: the same search as the proved one,
-    /// over the same kind of tables. There `many_histories_by_the_tree` and
+    /// tree may take long, it is `plain::verify`, over the same kind of tables as the
+    /// proved one, but through every history. There `many_histories_by_the_tree` and
     /// `counts_around_a_million` in `verifier.rs` compare the proved verifier with
     /// the tree too, as far as that is quick.
     pub fn verify(&self, budget: u32, memory: &mut [u8]) -> Answer {
@@ -322,8 +322,8 @@ fn wide(leaves: usize) -> Objective {
     }
 }
 
-/// The same by a branch: a probe of the fact, so many histories on the one side,
-/// so many on the other.
+/// A valid routine with a branch: a probe of the fact, so many histories on the one
+/// side, so many on the other.
 pub fn branched(then: u64, otherwise: u64) -> Sheet {
     let mut sheet = counted(then);
     put_behind_a_probe(&mut sheet, counted(otherwise).program);
@@ -351,50 +351,46 @@ pub fn fails_behind(count: u64, replies: &[u8]) -> (Sheet, Vec<u8>) {
     let failing = 2 + histories(replies) as u64;
     let mut sheet = counted(count - failing);
     let probe = sheet.actions.len() as u8;
-    let mut goal = Epistemic::Known(Objective::Fact(0));
+    let numbers: Vec<u8> = (probe + 1..).take(replies.len()).collect();
+    put_behind_a_probe(&mut sheet, sequence(&numbers));
+    sheet.goal = Epistemic::Known(Objective::Fact(0));
+    add_telling(&mut sheet, replies);
+    // All facts are false throughout.
     let mut trace = vec![0, 8 * probe + 1, 0];
-    let mut otherwise = Vec::new();
-    let mut actions = Vec::new();
-    for (number, &most) in (probe + 1..).zip(replies) {
+    for (number, most) in numbers.iter().zip(replies) {
+        trace.extend([8 * number + most - 1, 0]);
+    }
+    (sheet, trace)
+}
+
+/// Adds probes with these numbers of replies, of which the last tells that a new
+/// fact is false and the others tell nothing, if there are others; the goal then
+/// holds also where one of them didn't give its last.
+fn add_telling(sheet: &mut Sheet, replies: &[u8]) {
+    for &most in replies {
         let mut told = vec![Objective::True; most.into()];
         if most > 1 {
             let fact = Objective::Fact(sheet.facts).negate();
             sheet.facts += 1;
-            goal = Epistemic::NotKnown(fact.clone()).or(goal);
+            sheet.goal = Epistemic::NotKnown(fact.clone()).or(sheet.goal.clone());
             told[usize::from(most) - 1] = fact;
         }
-        actions.push(Action::Probe(told));
-        otherwise.push(number);
-        // All facts are false throughout.
-        trace.extend([8 * number + most - 1, 0]);
+        sheet.actions.push(Action::Probe(told));
     }
-    put_behind_a_probe(&mut sheet, sequence(&otherwise));
-    sheet.actions.extend(actions);
-    sheet.goal = goal;
-    (sheet, trace)
 }
 
 /// A routine with so many histories, of which the last alone fails: where every
 /// probe gave its last reply, which alone tells the probe's fact.
 pub fn last_fails(count: u32) -> Sheet {
     let replies = reply_counts(count.into());
-    let mut sheet = edges::plain();
-    let mut goal = Epistemic::Known(Objective::False);
-    for (number, &most) in replies.iter().enumerate() {
-        let mut told = vec![Objective::True; usize::from(most)];
-        if most > 1 {
-            let fact = Objective::Fact(sheet.facts - 1).negate();
-            sheet.facts += 1;
-            goal = Epistemic::NotKnown(fact.clone()).or(goal);
-            told[usize::from(most) - 1] = fact;
-        }
-        sheet.actions.push(Action::Probe(told));
-        assert_eq!(sheet.actions.len(), number + 1);
-    }
-    sheet.facts -= 1;
-    sheet.goal = goal;
-    let numbers: Vec<u8> = (0..replies.len() as u8).collect();
-    sheet.program = sequence(&numbers);
+    let numbers: Vec<u8> = (0..).take(replies.len()).collect();
+    let mut sheet = Sheet {
+        facts: 0,
+        goal: Epistemic::Known(Objective::False),
+        program: sequence(&numbers),
+        ..edges::plain()
+    };
+    add_telling(&mut sheet, &replies);
     sheet
 }
 

@@ -3,6 +3,7 @@
 
 use std::hint::black_box;
 
+use linked::straight::seldom_told;
 use linked::{plain, Tables, Verdict};
 use recovery::encode::encode;
 use recovery::sheet::{Epistemic, Objective, Sheet, MAX_TRACE};
@@ -54,6 +55,13 @@ fn families() -> Vec<Family> {
         Family {
             name: "k overlapping probes of 3 replies",
             members: (2..=16).map(|k| (k, valid(overlaps(k)))).collect(),
+        },
+        Family {
+            name: "k probes that seldom tell, 1 fact",
+            members: (2..=18)
+                .step_by(2)
+                .map(|k| (k, seldom_told(k.into())))
+                .collect(),
         },
     ]
 }

@@ -67,7 +67,7 @@ fn main() {
         verifying::rows();
     }
     if wanted("growth") {
-        println!("\ngrowth of the search, 8 facts");
+        println!("\ngrowth of the search, 8 facts where none are named");
         growth::rows(std::env::args().nth(2));
     }
     if wanted("runner") {

@@ -15,7 +15,7 @@ const RIGHT: f64 = 780.0;
 const TOP: f64 = 20.0;
 const BOTTOM: f64 = 500.0;
 
-const COLOURS: [&str; 4] = ["#0072b2", "#d55e00", "#00875a", "#a0479c"];
+const COLOURS: [&str; 5] = ["#0072b2", "#d55e00", "#00875a", "#a0479c", "#8a6d00"];
 
 /// Charts one below the other, each of times by the number that it names.
 pub fn page(up: &str, charts: &[(&str, Vec<Line>)]) -> String {
@@ -48,6 +48,7 @@ fn log_log(across: &str, up: &str, lines: &[Line]) -> String {
     let x = |number: f64| LEFT + (RIGHT - LEFT) * share(number, &numbers);
     let y = |time: f64| BOTTOM - (BOTTOM - TOP) * share(time, &times);
 
+    assert!(lines.len() <= COLOURS.len());
     let mut svg = String::new();
     let mut add = |element: String| {
         svg.push_str(&element);

@@ -2,7 +2,7 @@
 
 use std::cmp::Reverse;
 
-use linked::straight::{counted, sequence};
+use linked::straight::{counted, seldom_told, sequence};
 use linked::Verdict;
 use recovery::encode::encode;
 use recovery::random::{good, Random, Size};
@@ -170,6 +170,10 @@ pub fn later_sheets() -> Vec<(String, Sheet, u32)> {
         let sheet = routine.valid(&vec![Routine::NOTHING; probes]);
         greatest(format!("{probes} probes that tell nothing"), sheet);
     }
+    greatest(
+        "16 probes that seldom tell, 1 fact".to_string(),
+        seldom_told(16),
+    );
     for (name, count) in ["2^32 - 2", "2^32 - 1", "2^32", "2^32 + 1"]
         .into_iter()
         .zip((1 << 32) - 2..)
