@@ -5,7 +5,7 @@ use mathlib.Core.List.{List}
 use mathlib.Core.Bool.{Bool, _&&_}
 use lib.ListN.{length}
 use Rattle.states.specs.declared.States.{States}
-use Rattle.reader.specs.Format.{accepted, refused, reading}
+use Rattle.format.specs.Format.{accepted, refused, reading}
 use Rattle.reader.specs.declared.refusal.Refusal.{Refusal}
 use Rattle.reader.specs.Answers.{numberOf}
 use Rattle.semantics.specs.Checker.{isTraceLength, checkedFor, checked}

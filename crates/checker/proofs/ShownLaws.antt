@@ -11,10 +11,10 @@ use borrow.Author.Tests.{eqb-true, eqb-false, eq-eqb, ne-eqb}
 use Rattle.lists.proofs.ListLaws.{both-true}
 use Rattle.states.specs.declared.States.{States}
 use Rattle.states.specs.Sets.{member, setOf}
-use Rattle.reader.specs.Syntax.{Sheet}
-use Rattle.reader.specs.Truth.{isState, holds}
-use Rattle.reader.specs.Format.{accepted, reading}
-use Rattle.reader.proofs.SheetLaws.{accepted-shape}
+use Rattle.format.specs.Syntax.{Sheet}
+use Rattle.format.specs.Truth.{isState, holds}
+use Rattle.format.specs.Format.{accepted, reading}
+use Rattle.format.proofs.SheetLaws.{accepted-shape}
 use Rattle.semantics.specs.Runs.{Entry, entry, History, extended, replies, step, isSteps, holdsAfter}
 use Rattle.semantics.specs.Routine.{Policy, done, perform, routine, follows, isFull}
 use Rattle.semantics.specs.Replies.{leftAfter}

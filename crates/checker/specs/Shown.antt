@@ -6,8 +6,8 @@ use mathlib.Core.Bool.{Bool, true, false, not, _&&_}
 use lib.Dec.{eqb}
 use Rattle.states.specs.declared.States.{States}
 use Rattle.states.specs.Sets.{member, setOf}
-use Rattle.reader.specs.Syntax.{top, fact, negation, known, Program, end, act, probe, Sheet}
-use Rattle.reader.specs.Format.{Answer, accepted, refused}
+use Rattle.format.specs.Syntax.{top, fact, negation, known, Program, end, act, probe, Sheet}
+use Rattle.format.specs.Format.{Answer, accepted, refused}
 use Rattle.reader.specs.Answers.{numberOf}
 use Rattle.routine.specs.Tables.{sheetHeads, nodeCells, setWords, low}
 use Rattle.progression.specs.declared.place.Place.{Place}

@@ -19,7 +19,7 @@ use contract.Running.{GhostRules}
 use contract.BorrowModel.{ghost₀}
 use contract.Adequate.{sat-weaken}
 use denote.Laws.{Is}
-use Rattle.reader.specs.Format.{reading}
+use Rattle.format.specs.Format.{reading}
 use Rattle.reader.specs.Answers.{answerOf as readOf, withoutValue}
 use Rattle.semantics.specs.Verdict.{verified}
 use Rattle.verifier.specs.declared.verdict.Verdict.{Verdict}

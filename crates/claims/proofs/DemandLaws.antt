@@ -12,15 +12,15 @@ use Rattle.lists.specs.Lists.{if_then_else_}
 use Rattle.states.specs.declared.States.{States}
 use Rattle.states.specs.Sets.{member, setOf, members}
 use Rattle.states.proofs.SetLaws.{members-mem, mem-members}
-use Rattle.reader.specs.Syntax.{Objective, Epistemic, known, not-known, all-of, any-of, Program, end, act, branch, Sheet}
-use Rattle.reader.specs.Truth.{holds}
-use Rattle.reader.specs.Format.{Answer, accepted, refused, reading}
+use Rattle.format.specs.Syntax.{Objective, Epistemic, known, not-known, all-of, any-of, Program, end, act, branch, Sheet}
+use Rattle.format.specs.Truth.{holds}
+use Rattle.format.specs.Format.{Answer, accepted, refused, reading}
 use Rattle.reader.specs.declared.sheet.Answer.{Answer as Said}
 use Rattle.reader.specs.Answers.{numberOf, answerOf as readOf, withoutValue}
 use Rattle.reader.proofs.AnswerLaws.{same-answer, was-accepted, was-refused}
-use Rattle.reader.proofs.FaultLaws.{refused-number}
-use Rattle.reader.proofs.StateLaws.{state-byte}
-use Rattle.reader.proofs.SheetLaws.{accepted-shape}
+use Rattle.format.proofs.FaultLaws.{refused-number}
+use Rattle.format.proofs.StateLaws.{state-byte}
+use Rattle.format.proofs.SheetLaws.{accepted-shape}
 use Rattle.semantics.specs.Runs.{Entry, entry, History, extended, replies, IsRun, lastState, Known, Holds, holdsAfter}
 use Rattle.semantics.specs.Routine.{perform, routine, Follows, isFull}
 use Rattle.semantics.specs.Verdict.{Verdict as Meant, historyCount, valid, invalid, stopped, Outcome, outcome, written, Verified, verified}

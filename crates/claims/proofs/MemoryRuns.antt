@@ -24,7 +24,7 @@ use denote.Laws.{Is}
 use denote.Builtin.{u32}
 use denote.Triple.Bound.{Bound}
 use denote.Triple.Spec.{Spec, tripleOf}
-use Rattle.reader.specs.Format.{reading}
+use Rattle.format.specs.Format.{reading}
 use Rattle.reader.specs.Answers.{answerOf as readOf, withoutValue}
 use Rattle.runner.specs.declared.kept.AfterLoad.{AfterLoad}
 use Rattle.runner.specs.Records.{loaded}

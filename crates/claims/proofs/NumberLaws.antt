@@ -3,7 +3,7 @@ use mathlib.Core.Path.{_≡_, refl, sym, ap, _∙_}
 use mathlib.Core.Bool.{Bool, true, false}
 use lib.Dec.{eqb}
 use Rattle.lists.specs.Lists.{if_then_else_}
-use Rattle.reader.specs.Format.{Answer, accepted, refused}
+use Rattle.format.specs.Format.{Answer, accepted, refused}
 use Rattle.reader.specs.declared.refusal.Refusal.{Refusal}
 use Rattle.reader.specs.Answers.{numberOf}
 use Rattle.reader.proofs.AnswerLaws.{refusalOf, number-refusal}

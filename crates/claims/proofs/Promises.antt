@@ -9,7 +9,7 @@ use denote.Ref.{now}
 use denote.Triple.Entry.{Args}
 use denote.Triple.Clauses.{Lasts, atExit}
 use Rattle.states.specs.declared.States.{States}
-use Rattle.reader.specs.Format.{reading}
+use Rattle.format.specs.Format.{reading}
 use Rattle.reader.specs.Answers.{withoutValue}
 use Rattle.reader.specs.declared.sheet.Answer.{Answer as Said}
 use Rattle.semantics.specs.Verdict.{Verified, verified}

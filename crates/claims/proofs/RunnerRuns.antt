@@ -21,7 +21,7 @@ use denote.Ref.{now}
 use denote.Triple.Bound.{Bound}
 use denote.Triple.Clauses.{Lasts, atExit}
 use denote.Triple.Spec.{Spec}
-use Rattle.reader.specs.Format.{reading}
+use Rattle.format.specs.Format.{reading}
 use Rattle.reader.specs.Answers.{answerOf as readOf, withoutValue}
 use Rattle.runner.specs.declared.kept.Record.{Record}
 use Rattle.runner.specs.declared.kept.AfterLoad.{AfterLoad}

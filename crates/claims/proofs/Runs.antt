@@ -18,7 +18,7 @@ use denote.Triple.Bound.{Bound}
 use denote.Triple.Clauses.{Lasts, atExit}
 use denote.Triple.Spec.{Spec}
 use Rattle.states.specs.declared.States.{States}
-use Rattle.reader.specs.Format.{reading}
+use Rattle.format.specs.Format.{reading}
 use Rattle.reader.specs.Answers.{answerOf as readOf, withoutValue}
 use Rattle.reader.specs.declared.sheet.Answer.{Answer as Said}
 use Rattle.semantics.specs.Checker.{checked}

@@ -5,7 +5,7 @@ use mathlib.Core.Logic.{_⊎_, inl, inr}
 use mathlib.Core.Bool.{Bool}
 use base.Stored.{Coded, coded-set, codedUnit, codedℕ, codedBool, coded×, coded⊎, codedVia}
 use ghost.Sets.{retract-set}
-use Rattle.reader.specs.Format.{Answer, accepted, refused}
+use Rattle.format.specs.Format.{Answer, accepted, refused}
 use Rattle.semantics.specs.Verdict.{Verdict as Meant, valid, invalid, stopped}
 use Rattle.semantics.specs.Replies.{Told as Telling, to-do, at-end}
 use Rattle.states.specs.declared.States.{States}

@@ -10,7 +10,7 @@ use Rattle.lists.specs.Lists.{if_then_else_}
 use Rattle.states.specs.declared.States.{States}
 use Rattle.states.specs.Sets.{member, setOf}
 use Rattle.states.proofs.SetLaws.{fitting-setOf}
-use Rattle.reader.specs.Format.{reading}
+use Rattle.format.specs.Format.{reading}
 use Rattle.routine.specs.Memory.{setAt, headAt}
 use Rattle.routine.specs.Tables.{sheetHeads, nodeCells, setWords, prepared}
 use Rattle.routine.proofs.FitLaws.{prepared-heads-fit, prepared-nodes-fit, prepared-sets-fit, prepared-heads-length, prepared-nodes-length, prepared-sets-length}

@@ -7,9 +7,9 @@ use mathlib.Core.Bool.{Bool, true, false}
 use lib.ListN.{length, take, drop}
 use Rattle.states.specs.declared.States.{States}
 use Rattle.states.specs.Sets.{member, setOf}
-use Rattle.reader.specs.Syntax.{Objective, Epistemic, known, not-known, all-of, any-of, Program, end, act, branch, Sheet}
-use Rattle.reader.specs.Truth.{holds}
-use Rattle.reader.specs.Format.{accepted, refused, reading}
+use Rattle.format.specs.Syntax.{Objective, Epistemic, known, not-known, all-of, any-of, Program, end, act, branch, Sheet}
+use Rattle.format.specs.Truth.{holds}
+use Rattle.format.specs.Format.{accepted, refused, reading}
 use Rattle.reader.specs.declared.refusal.Refusal.{Refusal}
 use Rattle.reader.specs.declared.sheet.Answer.{Answer as Said}
 use Rattle.reader.specs.Answers.{numberOf, answerOf as readOf, withoutValue}

@@ -4,8 +4,8 @@ use mathlib.Core.Path.{_≡_, refl, sym, ap, _∙_}
 use mathlib.Core.List.{List}
 use native.Mathlib.Omega.{arith}
 use Rattle.states.specs.declared.States.{States}
-use Rattle.reader.specs.Syntax.{Sheet}
-use Rattle.reader.specs.Format.{Answer, accepted, refused}
+use Rattle.format.specs.Syntax.{Sheet}
+use Rattle.format.specs.Format.{Answer, accepted, refused}
 use Rattle.reader.specs.Answers.{withoutValue}
 use Rattle.routine.specs.Memory.{write, words, setAt}
 use Rattle.routine.specs.Tables.{startOf, prepared}

@@ -3,8 +3,8 @@ use Prim.Native.Nat.{ℕ, _+_, _*_}
 use mathlib.Core.List.{List, [], _∷_}
 use mathlib.Core.Bool.{Bool, true, false}
 use lib.ListN.{getD}
-use Rattle.reader.specs.Syntax.{Sheet}
-use Rattle.reader.specs.Format.{Answer, accepted, refused}
+use Rattle.format.specs.Syntax.{Sheet}
+use Rattle.format.specs.Format.{Answer, accepted, refused}
 use Rattle.semantics.specs.Verdict.{Verdict, valid, invalid, stopped}
 use Rattle.routine.specs.Memory.{write, words}
 use Rattle.routine.specs.Tables.{sheetStart}

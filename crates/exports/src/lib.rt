@@ -22,7 +22,7 @@ use verifier::verify;
 ghost use mathlib.Core.Path.{_≡_};
 ghost use mathlib.Core.List.{[], _∷_};
 ghost use lib.ListN.{length};
-ghost use Rattle.reader.specs.Format.{reading};
+ghost use Rattle.format.specs.Format.{reading};
 ghost use Rattle.reader.specs.Answers.{answerOf};
 ghost use Rattle.semantics.specs.Verdict.{verified};
 ghost use Rattle.semantics.specs.Checker.{checked};

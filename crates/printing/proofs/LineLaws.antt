@@ -11,7 +11,7 @@ use lib.ListN.{length, getD, take, drop, set, length-append, drop-of-length-le}
 use lib.Seq.{take-suc, drop-cons, length-take-le}
 use Rattle.lists.specs.Lists.{if_then_else_}
 use Rattle.reader.specs.declared.refusal.Refusal.{Refusal}
-use Rattle.reader.specs.Format.{accepted}
+use Rattle.format.specs.Format.{accepted}
 use Rattle.reader.specs.Answers.{numberOf}
 use Rattle.semantics.specs.Verdict.{invalid}
 use Rattle.semantics.specs.Printing.{space, lineFeed, digit, decimal, hexadecimal, invalidWord, refusedWord, endLine, printedFor}

@@ -3,7 +3,7 @@ use Prim.Native.Nat.{ℕ}
 use mathlib.Core.Path.{_≡_, sym, ap, _∙_}
 use mathlib.Core.List.{List}
 use lib.ListN.{length, replicate}
-use Rattle.reader.specs.Format.{Answer}
+use Rattle.format.specs.Format.{Answer}
 use Rattle.semantics.specs.Verdict.{Verdict as Meant, verified}
 use Rattle.semantics.specs.Printing.{printedFor, printed}
 use Rattle.semantics.proofs.MemoryLaws.{memory-length, invalid-short}

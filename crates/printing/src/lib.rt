@@ -7,7 +7,7 @@ ghost use mathlib.Core.List.{[], _∷_, _++_};
 ghost use Prim.Native.Nat.{_+_, _*_, _≤_, _<_};
 ghost use lib.ListN.{length, take};
 ghost use Rattle.semantics.specs.Printing.{digit as digitOf, decimal, hexadecimal, endLine, printedFor, printed};
-ghost use Rattle.reader.specs.Format.{accepted};
+ghost use Rattle.format.specs.Format.{accepted};
 ghost use Rattle.semantics.specs.Verdict.{invalid};
 ghost use Rattle.routine.specs.Memory.{write};
 ghost use Rattle.verifier.specs.Answers.{answerOf};

@@ -11,9 +11,9 @@ use Rattle.lists.proofs.ListLaws.{every-same, append-past}
 use Rattle.states.specs.declared.States.{States}
 use Rattle.states.specs.Sets.{member, setOf, members}
 use Rattle.states.proofs.SetLaws.{member-setOf, members-mem}
-use Rattle.reader.specs.Syntax.{Objective, Epistemic, known, not-known, all-of, any-of, Program, end, act, branch}
-use Rattle.reader.specs.Truth.{holds}
-use Rattle.reader.proofs.FormatLaws.{NumbersBelow}
+use Rattle.format.specs.Syntax.{Objective, Epistemic, known, not-known, all-of, any-of, Program, end, act, branch}
+use Rattle.format.specs.Truth.{holds}
+use Rattle.format.proofs.FormatLaws.{NumbersBelow}
 use Rattle.semantics.specs.Progression.{satisfies}
 use Rattle.routine.specs.declared.memory.Node.{Node}
 use Rattle.routine.specs.Memory.{nodeMost}

@@ -3,7 +3,7 @@ use mathlib.Core.Path.{_≡_, refl}
 use mathlib.Core.List.{List, [], _∷_}
 use mathlib.Core.Bool.{Bool, true, false}
 use Rattle.lists.specs.Lists.{if_then_else_}
-use Rattle.reader.specs.Syntax.{Epistemic, Program, end, act, branch, Sheet}
+use Rattle.format.specs.Syntax.{Epistemic, Program, end, act, branch, Sheet}
 use Rattle.semantics.specs.Runs.{History, holdsAfter}
 use Rattle.semantics.specs.Routine.{Policy, done, policy}
 

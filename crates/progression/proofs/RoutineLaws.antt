@@ -11,10 +11,10 @@ use Rattle.lists.specs.Lists.{every, nonempty}
 use Rattle.states.specs.declared.States.{States}
 use Rattle.states.specs.Sets.{member, setOf, members}
 use Rattle.states.proofs.SetLaws.{members-mem, mem-members}
-use Rattle.reader.specs.Syntax.{Objective, Epistemic, known, Program, end, act, branch, Sheet}
-use Rattle.reader.specs.Truth.{holds}
-use Rattle.reader.specs.Format.{accepted, reading}
-use Rattle.reader.proofs.SheetLaws.{accepted-shape}
+use Rattle.format.specs.Syntax.{Objective, Epistemic, known, Program, end, act, branch, Sheet}
+use Rattle.format.specs.Truth.{holds}
+use Rattle.format.specs.Format.{accepted, reading}
+use Rattle.format.proofs.SheetLaws.{accepted-shape}
 use Rattle.semantics.specs.Runs.{Entry, entry, History, extended, replies, IsRun, lastState, knownAfter, holdsAfter, occurs}
 use Rattle.semantics.specs.Routine.{Policy, done, perform, policy, routine, Follows}
 use Rattle.semantics.specs.Replies.{leftAfter}

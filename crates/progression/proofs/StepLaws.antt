@@ -13,10 +13,9 @@ use Rattle.lists.proofs.ListLaws.{two-cases, same-test, both-true, and-both, ex
 use Rattle.states.specs.declared.States.{States}
 use Rattle.states.specs.Sets.{member, setOf, members}
 use Rattle.states.proofs.SetLaws.{member-setOf, member-above, set-cong, members-setOf}
-use Rattle.reader.specs.Syntax.{Action, change, probe, replyCount, Sheet, actionOf}
-use Rattle.reader.specs.Truth.{isState, states, truth, moves, answers, allowed}
-use Rattle.reader.proofs.StateLaws.{state-byte, state-listed, answer-exists}
-use Rattle.reader.proofs.StageLaws.{space-states}
+use Rattle.format.specs.Syntax.{Action, change, probe, replyCount, Sheet, actionOf}
+use Rattle.format.specs.Truth.{isState, states, truth, moves, answers, allowed}
+use Rattle.format.proofs.StateLaws.{state-byte, state-listed, answer-exists, states-bytes}
 use Rattle.semantics.specs.Runs.{Entry, entry, History, step}
 use Rattle.semantics.specs.Progression.{possible, startSet, nextSet, setAfter}
 use Rattle.semantics.proofs.ProgressionLaws.{possible-keep, set-states}
@@ -169,7 +168,6 @@ module _ (sheet : Sheet) (few : sheet .facts ≤ 8) where
 
 -- The members of the set of possible states are the states possible after the history.
 pub members-possible : (sheet : Sheet) → sheet .facts ≤ 8 → (h : History) → members (setOf (setAfter sheet (startSet sheet) h)) ≡ possible sheet h
-unfolding isState
 members-possible sheet few h =
     members-setOf (setAfter sheet (startSet sheet) h) ∙ sym (keep-within (setAfter sheet (startSet sheet) h) (isState sheet) (below 256) (set-states sheet h))
-    ∙ ap (keep (setAfter sheet (startSet sheet) h)) (sym (members-setOf (isState sheet)) ∙ space-states sheet few) ∙ sym (possible-keep sheet h)
+    ∙ ap (keep (setAfter sheet (startSet sheet) h)) (states-bytes sheet few) ∙ sym (possible-keep sheet h)

@@ -7,7 +7,7 @@ use lib.Dec.{ltb}
 use Rattle.lists.specs.Lists.{if_then_else_, upFrom, below, every, exists}
 use Rattle.states.specs.declared.States.{States}
 use Rattle.states.specs.Sets.{member, setOf, members}
-use Rattle.reader.specs.Syntax.{top, fact, negation, known, end, act, branch, change, probe, Sheet}
+use Rattle.format.specs.Syntax.{top, fact, negation, known, end, act, branch, change, probe, Sheet}
 use Rattle.routine.specs.declared.memory.Node.{Node}
 use Rattle.routine.specs.declared.memory.Head.{Head}
 use Rattle.routine.specs.Memory.{nodeMost, setAt, nodeAt, headAt}

@@ -6,7 +6,7 @@ use native.Mathlib.Omega.{arith}
 use native.Mathlib.Decide.{decLt}
 use lib.ListN.{getD}
 use lib.Pow.{shl-shr, shr-shr, field, mod-mod-pow}
-use Rattle.reader.specs.Bits.{bitAt, bitsOnto, bitsAt}
+use Rattle.format.specs.Bits.{bitAt, bitsOnto, bitsAt}
 
 -- A bit below the cut is not changed by it.
 low-bit : (n w m : ℕ) → m < w → n % 2 ^ w / 2 ^ m % 2 ≡ n / 2 ^ m % 2

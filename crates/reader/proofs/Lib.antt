@@ -1,10 +1,4 @@
-pub mod StateLaws
-pub mod FormatLaws
-pub mod FormulaLaws
-pub mod SheetLaws
-pub mod Cases
 pub mod AnswerLaws
-pub mod FaultLaws
 pub mod StandingLaws
 pub mod BitLaws
 pub mod ReaderLaws

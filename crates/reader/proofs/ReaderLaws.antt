@@ -8,10 +8,10 @@ use native.Mathlib.Numerals.{sub-one}
 use lib.Dec.{ltb, eqb}
 use borrow.Author.Tests.{lt-ltb, le-ltb, ne-eqb}
 use Rattle.lists.specs.Lists.{if_then_else_}
-use Rattle.reader.specs.Syntax.{Objective, Epistemic, known, not-known, all-of, any-of}
-use Rattle.reader.specs.Format.{Read, got, fault, Reader, andThen, _>>=_, mapped, give, refuse, check, field, factNumber, objectiveBehind, objective, epistemicBehind, epistemic}
+use Rattle.format.specs.Syntax.{Objective, Epistemic, known, not-known, all-of, any-of}
+use Rattle.format.specs.Format.{Read, got, fault, Reader, andThen, _>>=_, mapped, give, refuse, check, field, factNumber, objectiveBehind, objective, EpistemicHead, known-head, not-known-head, all-of-head, any-of-head, epistemicHead, epistemicBehind, epistemic}
 use Rattle.reader.specs.Answers.{ending}
-use Rattle.reader.proofs.FormatLaws.{behind-got, behind-fault}
+use Rattle.format.proofs.FormatLaws.{behind-got, behind-fault}
 
 module _ {A B : Type 0} (f : A → B) where
   -- Where a value made of what was read is found, the value that it was made of was read.
@@ -85,8 +85,28 @@ module _ (n : ℕ) (theory : Bool) (s : List ℕ) (p : ℕ) where
       behind-got (field 3) (objectiveBehind n theory (objective n theory d)) s p e
       ∙ ap (λ (k : ℕ). objectiveBehind n theory (objective n theory k) tag s q) (sym (sub-one (suc d)))
 
+-- The first node of an epistemic formula, by its tag.
+unfoldable pub epistemicOf : ℕ → EpistemicHead
+unfolding if_then_else_
+epistemicOf tag = if eqb tag 0 then known-head else if eqb tag 1 then not-known-head else if eqb tag 2 then all-of-head else any-of-head
+
 -- An epistemic formula, by the levels left and its tag.
 module _ (n : ℕ) (s : List ℕ) (p : ℕ) where
+  head-of : {tag q : ℕ} → field 2 s p ≡ got tag q → epistemicHead s p ≡ got (epistemicOf tag) q
+  unfolding epistemicHead epistemicOf _>>=_ andThen give if_then_else_
+  head-of {tag} {q} e = rw e (go (eqb tag 0) (eqb tag 1) (eqb tag 2))
+    where
+      go : (a b c : Bool) → (if a then give known-head else if b then give not-known-head else if c then give all-of-head else give any-of-head) s q
+          ≡ got (if a then known-head else if b then not-known-head else if c then all-of-head else any-of-head) q
+      go true b c = refl
+      go false true c = refl
+      go false false true = refl
+      go false false false = refl
+
+  head-cut : {r : ℕ} → field 2 s p ≡ fault r → epistemicHead s p ≡ fault r
+  unfolding epistemicHead _>>=_ andThen
+  head-cut e = rw e
+
   -- With no level left it is refused.
   pub epistemic-none : (d : ℕ) → d ≡ 0 → epistemic n d s p ≡ fault 8
   unfolding epistemic refuse
@@ -96,29 +116,29 @@ module _ (n : ℕ) (s : List ℕ) (p : ℕ) where
   pub epistemic-cut : (d : ℕ) → (d ≡ 0 → ⊥) → {r : ℕ} → field 2 s p ≡ fault r → epistemic n d s p ≡ fault r
   unfolding epistemic
   epistemic-cut zero h e = absurd (h refl)
-  epistemic-cut (suc d) h e = behind-fault (field 2) (epistemicBehind (objective n false d) (epistemic n d)) s p e
+  epistemic-cut (suc d) h e = behind-fault epistemicHead (epistemicBehind (objective n false d) (epistemic n d)) s p (head-cut e)
 
   -- Behind its tag its parts have a level less.
   pub epistemic-tag : (d : ℕ) → (d ≡ 0 → ⊥) → {tag q : ℕ} → field 2 s p ≡ got tag q
-      → epistemic n d s p ≡ epistemicBehind (objective n false (d - 1)) (epistemic n (d - 1)) tag s q
+      → epistemic n d s p ≡ epistemicBehind (objective n false (d - 1)) (epistemic n (d - 1)) (epistemicOf tag) s q
   unfolding epistemic
   epistemic-tag zero h e = absurd (h refl)
   epistemic-tag (suc d) h {tag} {q} e =
-      behind-got (field 2) (epistemicBehind (objective n false d) (epistemic n d)) s p e
-      ∙ ap (λ (k : ℕ). epistemicBehind (objective n false k) (epistemic n k) tag s q) (sym (sub-one (suc d)))
+      behind-got epistemicHead (epistemicBehind (objective n false d) (epistemic n d)) s p (head-of e)
+      ∙ ap (λ (k : ℕ). epistemicBehind (objective n false k) (epistemic n k) (epistemicOf tag) s q) (sym (sub-one (suc d)))
 
 -- Where an epistemic formula ends, behind its tag.
 module _ (inside : Reader Objective) (part : Reader Epistemic) (s : List ℕ) (q : ℕ) where
   -- Known and not known end with their objective formula.
-  pub ends-known : (tag : ℕ) → tag < 2 → mapped ending (epistemicBehind inside part tag s q) ≡ mapped ending (inside s q)
-  unfolding epistemicBehind if_then_else_ ending
+  pub ends-known : (tag : ℕ) → tag < 2 → mapped ending (epistemicBehind inside part (epistemicOf tag) s q) ≡ mapped ending (inside s q)
+  unfolding epistemicBehind epistemicOf if_then_else_ ending
   ends-known zero h = mapped-give ending inside known s q
   ends-known (suc zero) h = mapped-give ending inside not-known s q
   ends-known (suc (suc tag)) h = absurd (omega arith)
 
   -- And and or end with their second part.
-  pub ends-two : (tag : ℕ) → 1 < tag → {p : ℕ} → mapped ending (part s q) ≡ got tt p → mapped ending (epistemicBehind inside part tag s q) ≡ mapped ending (part s p)
-  unfolding epistemicBehind if_then_else_ ending
+  pub ends-two : (tag : ℕ) → 1 < tag → {p : ℕ} → mapped ending (part s q) ≡ got tt p → mapped ending (epistemicBehind inside part (epistemicOf tag) s q) ≡ mapped ending (part s p)
+  unfolding epistemicBehind epistemicOf if_then_else_ ending
   ends-two tag l {p} h = rw (ne-eqb tag 0 (λ z. omega arith), ne-eqb tag 1 (λ z. omega arith)) (go (eqb tag 2))
     where
       two : (make : Epistemic → Epistemic → Epistemic) → mapped ending ((part >>= λ f. part >>= λ g. give (make f g)) s q) ≡ mapped ending (part s p)
@@ -126,18 +146,18 @@ module _ (inside : Reader Objective) (part : Reader Epistemic) (s : List ℕ) (q
           let first = mapped-got ending (part s q) h in
           ap (mapped ending) (behind-got part (λ f. part >>= λ g. give (make f g)) s q (first .1)) ∙ mapped-give ending part (make (first .0)) s p
 
-      go : (b : Bool) → mapped ending ((if b then (part >>= λ f. part >>= λ g. give (all-of f g)) else (part >>= λ f. part >>= λ g. give (any-of f g))) s q) ≡ mapped ending (part s p)
+      go : (b : Bool) → mapped ending (epistemicBehind inside part (if b then all-of-head else any-of-head) s q) ≡ mapped ending (part s p)
       go true = two all-of
       go false = two any-of
 
   -- The refusal of their first part stands.
-  pub ends-refused : (tag : ℕ) → 1 < tag → {r : ℕ} → mapped ending (part s q) ≡ fault r → mapped ending (epistemicBehind inside part tag s q) ≡ fault r
-  unfolding epistemicBehind if_then_else_ mapped
+  pub ends-refused : (tag : ℕ) → 1 < tag → {r : ℕ} → mapped ending (part s q) ≡ fault r → mapped ending (epistemicBehind inside part (epistemicOf tag) s q) ≡ fault r
+  unfolding epistemicBehind epistemicOf if_then_else_ mapped
   ends-refused tag l {r} h = rw (ne-eqb tag 0 (λ z. omega arith), ne-eqb tag 1 (λ z. omega arith)) (go (eqb tag 2))
     where
       two : (make : Epistemic → Epistemic → Epistemic) → mapped ending ((part >>= λ f. part >>= λ g. give (make f g)) s q) ≡ fault r
       two make = ap (mapped ending) (behind-fault part (λ f. part >>= λ g. give (make f g)) s q (mapped-fault ending (part s q) h))
 
-      go : (b : Bool) → mapped ending ((if b then (part >>= λ f. part >>= λ g. give (all-of f g)) else (part >>= λ f. part >>= λ g. give (any-of f g))) s q) ≡ fault r
+      go : (b : Bool) → mapped ending (epistemicBehind inside part (if b then all-of-head else any-of-head) s q) ≡ fault r
       go true = two all-of
       go false = two any-of

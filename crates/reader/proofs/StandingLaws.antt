@@ -1,6 +1,6 @@
 -- The parts of an accepted sheet stand where specs/Standing.antt says, and stay inside the bytes. Assumes nothing.
 use Prim.Native.Nat.{ℕ, zero, suc, _+_, _-_, _*_, _≤_, _<_}
-use mathlib.Core.Path.{_≡_, refl, sym, ap}
+use mathlib.Core.Path.{_≡_, refl, sym, ap, _∙_}
 use mathlib.Core.List.{List, [], _∷_}
 use mathlib.Core.Bool.{Bool, true, false, _&&_}
 use native.Mathlib.Omega.{arith}
@@ -8,16 +8,16 @@ use lib.Dec.{leb, ltb, eqb}
 use lib.ListN.{length}
 use borrow.Author.Tests.{ltb-true}
 use Rattle.lists.proofs.ListLaws.{both-true}
-use Rattle.reader.specs.Syntax.{Objective, Epistemic, known, not-known, all-of, any-of, Program, end, act, branch, Action, change, probe, Sheet}
-use Rattle.reader.specs.Format.{accepted, got, mapped, Reader, field, deepest, objective, epistemicBehind, epistemic, objectives, actionBehind, action, actionList, ProgramRead, programBehind, programWithin, isEdition, sheetFields, isPadding, reading}
-use Rattle.reader.specs.Nodes.{change-head, probe-head, end-head, act-head, branch-head, actionHead, programHead, ofSheet}
+use Rattle.format.specs.Syntax.{Objective, Epistemic, known, not-known, all-of, any-of, Program, end, act, branch, Action, change, probe, Sheet}
+use Rattle.format.specs.Format.{accepted, got, mapped, Reader, _>>=_, give, field, deepest, objective, EpistemicHead, known-head, not-known-head, all-of-head, any-of-head, epistemicHead, epistemicBehind, epistemic, objectives, Kind, changes, probes, kind, replyNumber, theory, replies, actionBehind, action, actionList, ProgramRead, ProgramHead, end-head, act-head, branch-head, programHead, programBehind, programWithin, levels, program, Header, header, body, sheetFields, isPadding, ofSheet, reading}
+use Rattle.reader.specs.Nodes.{change-head, probe-head, actionHeadBehind, actionHead}
 use Rattle.reader.specs.Answers.{inTheory, table}
 use Rattle.reader.specs.declared.formula.View.{View}
 use Rattle.reader.specs.Standing.{ObjectiveAt, RepliesAt, ActionAt, ActionsAt, EpistemicAt, ProgramAt, Standing}
-use Rattle.reader.proofs.FormatLaws.{Finds, finds-give, finds-refuse, finds-if, finds-check, finds-behind, finds-field}
-use Rattle.reader.proofs.FormulaLaws.{objective-levels, objective-onward}
-use Rattle.reader.proofs.NodeLaws.{sheet-short, header-got, change-first, probe-first, known-first, not-known-first, all-of-first, any-of-first, end-first, act-first, branch-first}
-use Rattle.reader.proofs.SheetLaws.{objectives-long, list-few, fieldsWith, accepted-how, accepted-padding}
+use Rattle.format.proofs.FormatLaws.{Finds, finds-give, finds-refuse, finds-if, finds-check, finds-behind, finds-field, got-behind, behind-got, head-anywhere}
+use Rattle.format.proofs.FormulaLaws.{objective-levels, objective-onward}
+use Rattle.reader.proofs.NodeLaws.{sheet-short}
+use Rattle.format.proofs.SheetLaws.{objectives-long, list-few, accepted-how, accepted-padding}
 
 module _ (bytes : List ℕ) (n : ℕ) where
   -- Replies that are read stand there.
@@ -29,21 +29,28 @@ module _ (bytes : List ℕ) (n : ℕ) where
       finds-behind bytes r _ (objectives n m) _ (λ fs q h.
       finds-give bytes q _ (f ∷ fs) (r, e, standing-replies m r .found fs q h)))
 
+  -- The first node of an action, by its kind and its reply count.
+  change-first : (p r : ℕ) → kind bytes p ≡ got changes r → actionHead bytes p ≡ got change-head r
+  unfolding actionHead actionHeadBehind give
+  change-first p r e = behind-got kind actionHeadBehind bytes p e
+
+  probe-first : (p r m q : ℕ) → kind bytes p ≡ got probes r → replyNumber bytes r ≡ got m q → actionHead bytes p ≡ got (probe-head m) q
+  unfolding actionHead actionHeadBehind give
+  probe-first p r m q e h = behind-got kind actionHeadBehind bytes p e ∙ behind-got replyNumber (λ m. give (probe-head m)) bytes r h
+
   -- An action that is read stands there.
+  standing-behind : (p r : ℕ) (h : Kind) → kind bytes p ≡ got h r → Finds bytes r (λ a q. ActionAt bytes n a p q) (actionBehind n h)
+  unfolding actionBehind replies ActionAt
+  standing-behind p r changes e = finds-behind bytes r _ (theory n) _ (λ f q h. finds-give bytes q _ (change f) (r, change-first p r e, h))
+  standing-behind p r probes e =
+      finds-behind bytes r _ (replies n) _ (λ fs q h.
+      let w = got-behind replyNumber (objectives n) bytes r fs q h in
+      finds-give bytes q _ (probe fs)
+      (w .middle, rw (objectives-long n (w .value) bytes (w .middle) fs q (w .second)) (probe-first p r (w .value) (w .middle) e (w .first)), standing-replies (w .value) (w .middle) .found fs q (w .second)))
+
   pub standing-action : (p : ℕ) → Finds bytes p (λ a q. ActionAt bytes n a p q) (action n)
-  unfolding action actionBehind ActionAt
-  standing-action p =
-      finds-field bytes p Q 1 (p + 1) refl _ (λ kind e low.
-      finds-if bytes (p + 1) Q (eqb kind 0) _ _
-      (λ t. finds-behind bytes (p + 1) Q (objective n true 16) _ (λ f q h. finds-give bytes q Q (change f) (change-first bytes p e t, h)))
-      (λ t. finds-field bytes (p + 1) Q 4 (p + 5) (omega arith) _ (λ m g low′.
-      finds-check bytes (p + 5) Q (leb 1 m && leb m 8) 5 _ (λ u.
-      finds-behind bytes (p + 5) Q (objectives n m) _ (λ fs q h.
-      finds-give bytes q Q (probe fs)
-      (rw (objectives-long n m bytes (p + 5) fs q h) (probe-first bytes p e t g u), standing-replies m (p + 5) .found fs q h))))))
-    where
-      Q : Action → ℕ → Type 0
-      Q a q = ActionAt bytes n a p q
+  unfolding action
+  standing-action p = finds-behind bytes p _ kind (actionBehind n) (λ h r e. standing-behind p r h e)
 
   -- Actions that are read stand there.
   pub standing-actions : (k p : ℕ) → Finds bytes p (λ actions q. ActionsAt bytes n actions p q) (actionList n k)
@@ -54,71 +61,73 @@ module _ (bytes : List ℕ) (n : ℕ) where
       finds-behind bytes r _ (actionList n k) _ (λ rest q h.
       finds-give bytes q _ (a ∷ rest) (r, standing-action p .found a r e, standing-actions k r .found rest q h)))
 
+  -- An epistemic formula behind its first node, whose parts stand where they are read.
+  standing-epistemic-behind : (inside : Reader Objective) (part : Reader Epistemic) → ((f : Objective) (r q : ℕ) → inside bytes r ≡ got f q → ObjectiveAt bytes n false f r q)
+      → ((f : Epistemic) (r q : ℕ) → part bytes r ≡ got f q → EpistemicAt bytes n f r q) → (p r : ℕ) (h : EpistemicHead) → epistemicHead bytes p ≡ got h r
+      → Finds bytes r (λ f q. EpistemicAt bytes n f p q) (epistemicBehind inside part h)
+  unfolding epistemicBehind EpistemicAt
+  standing-epistemic-behind inside part x y p r known-head e = finds-behind bytes r _ inside _ (λ f q h. finds-give bytes q _ (known f) (r, e, x f r q h))
+  standing-epistemic-behind inside part x y p r not-known-head e = finds-behind bytes r _ inside _ (λ f q h. finds-give bytes q _ (not-known f) (r, e, x f r q h))
+  standing-epistemic-behind inside part x y p r all-of-head e =
+      finds-behind bytes r _ part _ (λ f i h. finds-behind bytes i _ part _ (λ g q j. finds-give bytes q _ (all-of f g) (r, e, i, y f r i h, y g i q j)))
+  standing-epistemic-behind inside part x y p r any-of-head e =
+      finds-behind bytes r _ part _ (λ f i h. finds-behind bytes i _ part _ (λ g q j. finds-give bytes q _ (any-of f g) (r, e, i, y f r i h, y g i q j)))
+
   -- An epistemic formula that is read, with at most 16 levels, stands there.
   pub standing-epistemic : (d : ℕ) → d ≤ 16 → (p : ℕ) → Finds bytes p (λ f q. EpistemicAt bytes n f p q) (epistemic n d)
-  unfolding epistemic epistemicBehind EpistemicAt
+  unfolding epistemic
   standing-epistemic zero l p = finds-refuse bytes p _ 8
   standing-epistemic (suc d) l p =
-      finds-field bytes p Q 2 (p + 2) refl _ (λ tag e low.
-      finds-if bytes (p + 2) Q (eqb tag 0) _ _
-      (λ t. finds-behind bytes (p + 2) Q (objective n false d) _ (λ f q h. finds-give bytes q Q (known f) (known-first bytes p e t, deep f q h)))
-      (λ t. finds-if bytes (p + 2) Q (eqb tag 1) _ _
-      (λ u. finds-behind bytes (p + 2) Q (objective n false d) _ (λ f q h. finds-give bytes q Q (not-known f) (not-known-first bytes p e t u, deep f q h)))
-      (λ u. finds-if bytes (p + 2) Q (eqb tag 2) _ _
-      (λ v. finds-behind bytes (p + 2) Q (epistemic n d) _ (λ f r h. finds-behind bytes r Q (epistemic n d) _ (λ g q i.
-      finds-give bytes q Q (all-of f g) (all-of-first bytes p e t u v, r, standing-epistemic d (omega arith) (p + 2) .found f r h, standing-epistemic d (omega arith) r .found g q i))))
-      (λ v. finds-behind bytes (p + 2) Q (epistemic n d) _ (λ f r h. finds-behind bytes r Q (epistemic n d) _ (λ g q i.
-      finds-give bytes q Q (any-of f g) (any-of-first bytes p e t u v, r, standing-epistemic d (omega arith) (p + 2) .found f r h, standing-epistemic d (omega arith) r .found g q i)))))))
-    where
-      Q : Epistemic → ℕ → Type 0
-      Q f q = EpistemicAt bytes n f p q
+      finds-behind bytes p _ epistemicHead _ (λ h r e.
+      standing-epistemic-behind (objective n false d) (epistemic n d) (λ f i q j. objective-levels n false d 16 (omega arith) bytes i f q j)
+      (λ f i q j. standing-epistemic d (omega arith) i .found f q j) p r h e)
 
-      deep : (f : Objective) (q : ℕ) → objective n false d bytes (p + 2) ≡ got f q → ObjectiveAt bytes n false f (p + 2) q
-      deep f q h = objective-levels n false d 16 (omega arith) bytes (p + 2) f q h
-
-  -- One level of a program, whose parts stand where they are read.
+  -- A program behind its first node, whose parts stand where they are read.
   standing-program-behind : (k : ℕ) (part : ℕ → ℕ → Reader ProgramRead) → ((acts branches p : ℕ) → Finds bytes p (λ c q. ProgramAt bytes n (c .program) p q) (part acts branches))
-      → (acts branches p tag : ℕ) → field 2 bytes p ≡ got tag (p + 2) → Finds bytes (p + 2) (λ c q. ProgramAt bytes n (c .program) p q) (programBehind n k part acts branches tag)
+      → (acts branches p r : ℕ) (h : ProgramHead) → programHead 0 0 bytes p ≡ got h r → Finds bytes r (λ c q. ProgramAt bytes n (c .program) p q) (programBehind n k part acts branches h)
   unfolding programBehind ProgramAt
-  standing-program-behind k part stands acts branches p tag e =
-      finds-if bytes (p + 2) Q (eqb tag 0) _ _
-      (λ t. finds-give bytes (p + 2) Q _ (end-first bytes p e t, refl))
-      (λ t. finds-if bytes (p + 2) Q (eqb tag 1) _ _
-      (λ u. finds-check bytes (p + 2) Q (ltb acts 64) 11 _ (λ v.
-      finds-field bytes (p + 2) Q 5 (p + 7) (omega arith) _ (λ a g low.
-      finds-check bytes (p + 7) Q (ltb a k) 9 _ (λ w.
-      finds-behind bytes (p + 7) Q (part (acts + 1) branches) _ (λ c q h.
-      finds-give bytes q Q _ (act-first bytes p e t u g, stands (acts + 1) branches (p + 7) .found c q h))))))
-      (λ u. finds-if bytes (p + 2) Q (eqb tag 2) _ _
-      (λ v. finds-check bytes (p + 2) Q (ltb branches 63) 11 _ (λ w.
-      finds-behind bytes (p + 2) Q (epistemic n 16) _ (λ f i h.
+  standing-program-behind k part stands acts branches p r end-head e = finds-give bytes r _ _ e
+  standing-program-behind k part stands acts branches p r (act-head a) e =
+      finds-check bytes r _ (ltb a k) 9 _ (λ w. finds-behind bytes r _ (part (acts + 1) branches) _ (λ c q h. finds-give bytes q _ _ (r, e, stands (acts + 1) branches r .found c q h)))
+  standing-program-behind k part stands acts branches p r branch-head e =
+      finds-behind bytes r Q (epistemic n 16) _ (λ f i h.
       finds-behind bytes i Q (part acts (branches + 1)) _ (λ x j hx.
       finds-behind bytes j Q (part (x .acts) (x .branches)) _ (λ y l hy.
       finds-behind bytes l Q (part (y .acts) (y .branches)) _ (λ z q hz.
       finds-give bytes q Q _ (
-        branch-first bytes p e t u v,
+        r,
+        e,
         record {
           then-at = i;
           else-at = j;
           rest-at = l;
           condition-read = h;
-          condition-stands = standing-epistemic 16 (omega arith) (p + 2) .found f i h;
+          condition-stands = standing-epistemic 16 (omega arith) r .found f i h;
           then-stands = stands acts (branches + 1) i .found x j hx;
           else-stands = stands (x .acts) (x .branches) j .found y l hy;
           rest-stands = stands (y .acts) (y .branches) l .found z q hz;
         },
-      )))))))
-      (λ v. finds-refuse bytes (p + 2) Q 10)))
+      )))))
     where
       Q : ProgramRead → ℕ → Type 0
       Q c q = ProgramAt bytes n (c .program) p q
 
   -- A program that is read stands there.
-  pub standing-program : (k d acts branches p : ℕ) → Finds bytes p (λ c q. ProgramAt bytes n (c .program) p q) (programWithin n k d acts branches)
+  standing-within : (k d acts branches p : ℕ) → Finds bytes p (λ c q. ProgramAt bytes n (c .program) p q) (programWithin n k d acts branches)
   unfolding programWithin
-  standing-program k zero acts branches p = finds-refuse bytes p _ 11
-  standing-program k (suc d) acts branches p =
-      finds-field bytes p _ 2 (p + 2) refl _ (λ tag e low. standing-program-behind k (programWithin n k d) (λ a b i. standing-program k d a b i) acts branches p tag e)
+  standing-within k zero acts branches p = finds-refuse bytes p _ 11
+  standing-within k (suc d) acts branches p =
+      finds-behind bytes p _ (programHead acts branches) _ (λ h r e. standing-program-behind k (programWithin n k d) (λ a b i. standing-within k d a b i) acts branches p r h (head-anywhere acts branches bytes p h r e))
+
+  pub standing-program : (k p : ℕ) → Finds bytes p (λ c q. ProgramAt bytes n (c .program) p q) (program n k)
+  unfolding program
+  standing-program k p = standing-within k levels 0 0 p
+
+-- A reply count ends inside the bytes.
+count-inside : (bytes : List ℕ) (p : ℕ) → Finds bytes p (λ m q. (p < q) × (q ≤ 8 * length bytes)) replyNumber
+unfolding replyNumber
+count-inside bytes p =
+    finds-field bytes p _ 4 (p + 4) refl _ (λ m e low. finds-check bytes (p + 4) _ (leb 1 m && leb m 8) 5 _ (λ t. finds-give bytes (p + 4) _ m (omega arith, low)))
 
 module _ (bytes : List ℕ) (p : ℕ) where
   abbrev Inside : {A : Type 0} → A → ℕ → Type 0
@@ -126,22 +135,38 @@ module _ (bytes : List ℕ) (p : ℕ) where
 
   -- The first node of an action ends behind its beginning, and inside the bytes.
   pub action-head-inside : Finds bytes p (λ a q. (p < q) × (q ≤ 8 * length bytes)) actionHead
-  unfolding actionHead
-  action-head-inside =
-      finds-field bytes p Inside 1 (p + 1) refl _ (λ kind e low.
-      finds-if bytes (p + 1) Inside (eqb kind 0) _ _ (λ t. finds-give bytes (p + 1) Inside change-head (omega arith, low))
-      (λ t. finds-field bytes (p + 1) Inside 4 (p + 5) (omega arith) _ (λ m g low′.
-      finds-check bytes (p + 5) Inside (leb 1 m && leb m 8) 5 _ (λ u. finds-give bytes (p + 5) Inside (probe-head m) (omega arith, low′)))))
+  unfolding actionHead kind
+  action-head-inside = finds-behind bytes p Inside kind actionHeadBehind (λ h r e. behind h r (kind-inside .found h r e))
+    where
+      kind-inside : Finds bytes p Inside kind
+      kind-inside =
+          finds-field bytes p Inside 1 (p + 1) refl _ (λ bit e low.
+          finds-if bytes (p + 1) Inside (eqb bit 0) _ _ (λ t. finds-give bytes (p + 1) Inside changes (omega arith, low)) (λ t. finds-give bytes (p + 1) Inside probes (omega arith, low)))
 
-  -- So does the first node of a program.
-  pub program-head-inside : Finds bytes p (λ a q. (p < q) × (q ≤ 8 * length bytes)) programHead
+      behind : (h : Kind) (r : ℕ) → (p < r) × (r ≤ 8 * length bytes) → Finds bytes r Inside (actionHeadBehind h)
+      behind changes r in-bytes = unfold actionHeadBehind in (finds-give bytes r Inside change-head in-bytes)
+      behind probes r in-bytes = unfold actionHeadBehind in (finds-behind bytes r Inside replyNumber _ (λ m i e.
+          let w = count-inside bytes r .found m i e in
+          finds-give bytes i Inside (probe-head m) (omega (arith, in-bytes .0, w .0), w .1)))
+
+  -- So does the first node of an epistemic formula, and of a program.
+  pub epistemic-head-inside : Finds bytes p (λ a q. (p + 2 ≤ q) × (q ≤ 8 * length bytes)) epistemicHead
+  unfolding epistemicHead
+  epistemic-head-inside =
+      finds-field bytes p _ 2 (p + 2) refl _ (λ tag e low.
+      finds-if bytes (p + 2) _ (eqb tag 0) _ _ (λ t. finds-give bytes (p + 2) _ known-head (omega arith, low))
+      (λ t. finds-if bytes (p + 2) _ (eqb tag 1) _ _ (λ u. finds-give bytes (p + 2) _ not-known-head (omega arith, low))
+      (λ u. finds-if bytes (p + 2) _ (eqb tag 2) _ _ (λ v. finds-give bytes (p + 2) _ all-of-head (omega arith, low))
+      (λ v. finds-give bytes (p + 2) _ any-of-head (omega arith, low)))))
+
+  pub program-head-inside : Finds bytes p (λ a q. (p < q) × (q ≤ 8 * length bytes)) (programHead 0 0)
   unfolding programHead
   program-head-inside =
       finds-field bytes p Inside 2 (p + 2) refl _ (λ tag e low.
       finds-if bytes (p + 2) Inside (eqb tag 0) _ _ (λ t. finds-give bytes (p + 2) Inside end-head (omega arith, low))
       (λ t. finds-if bytes (p + 2) Inside (eqb tag 1) _ _
-      (λ u. finds-field bytes (p + 2) Inside 5 (p + 7) (omega arith) _ (λ a g low′. finds-give bytes (p + 7) Inside (act-head a) (omega arith, low′)))
-      (λ u. finds-if bytes (p + 2) Inside (eqb tag 2) _ _ (λ v. finds-give bytes (p + 2) Inside branch-head (omega arith, low))
+      (λ u. finds-check bytes (p + 2) Inside (ltb 0 64) 11 _ (λ w. finds-field bytes (p + 2) Inside 5 (p + 7) (omega arith) _ (λ a g low′. finds-give bytes (p + 7) Inside (act-head a) (omega arith, low′))))
+      (λ u. finds-if bytes (p + 2) Inside (eqb tag 2) _ _ (λ v. finds-check bytes (p + 2) Inside (ltb 0 63) 11 _ (λ w. finds-give bytes (p + 2) Inside branch-head (omega arith, low)))
       (λ v. finds-refuse bytes (p + 2) Inside 10))))
 
 module _ (bytes : List ℕ) (n : ℕ) where
@@ -161,10 +186,13 @@ module _ (bytes : List ℕ) (n : ℕ) where
   -- An action ends behind its beginning, and inside the bytes.
   pub action-inside : (a : Action) (p q : ℕ) → ActionAt bytes n a p q → (p < q) × (q ≤ 8 * length bytes)
   unfolding ActionAt
-  action-inside (change f) p q s = let x = objective-inside true f (p + 1) q (s .1) in (omega arith, x .1)
+  action-inside (change f) p q s =
+      let h = action-head-inside bytes p .found change-head (s .0) (s .1) in
+      let x = objective-inside true f (s .0) q (s .2) in
+      (omega arith, x .1)
   action-inside (probe fs) p q s =
-      let x = action-head-inside bytes p .found (probe-head (length fs)) (p + 5) (s .0) in
-      let y = replies-inside fs (p + 5) q (x .1) (s .1) in
+      let x = action-head-inside bytes p .found (probe-head (length fs)) (s .0) (s .1) in
+      let y = replies-inside fs (s .0) q (x .1) (s .2) in
       (omega arith, y .1)
 
   -- Actions that begin inside the bytes end inside.
@@ -179,70 +207,75 @@ module _ (bytes : List ℕ) (n : ℕ) where
   -- An epistemic formula ends behind its beginning, and inside the bytes.
   pub epistemic-inside : (f : Epistemic) (p q : ℕ) → EpistemicAt bytes n f p q → (p < q) × (q ≤ 8 * length bytes)
   unfolding EpistemicAt
-  epistemic-inside (known f) p q s = let x = objective-inside false f (p + 2) q (s .1) in (omega arith, x .1)
-  epistemic-inside (not-known f) p q s = let x = objective-inside false f (p + 2) q (s .1) in (omega arith, x .1)
+  epistemic-inside (known f) p q s =
+      let h = epistemic-head-inside bytes p .found known-head (s .0) (s .1) in
+      let x = objective-inside false f (s .0) q (s .2) in
+      (omega arith, x .1)
+  epistemic-inside (not-known f) p q s =
+      let h = epistemic-head-inside bytes p .found not-known-head (s .0) (s .1) in
+      let x = objective-inside false f (s .0) q (s .2) in
+      (omega arith, x .1)
   epistemic-inside (all-of f g) p q s =
-      let x = epistemic-inside f (p + 2) (s .1) (s .2) in
-      let y = epistemic-inside g (s .1) q (s .3) in
+      let h = epistemic-head-inside bytes p .found all-of-head (s .0) (s .1) in
+      let x = epistemic-inside f (s .0) (s .2) (s .3) in
+      let y = epistemic-inside g (s .2) q (s .4) in
       (omega arith, y .1)
   epistemic-inside (any-of f g) p q s =
-      let x = epistemic-inside f (p + 2) (s .1) (s .2) in
-      let y = epistemic-inside g (s .1) q (s .3) in
+      let h = epistemic-head-inside bytes p .found any-of-head (s .0) (s .1) in
+      let x = epistemic-inside f (s .0) (s .2) (s .3) in
+      let y = epistemic-inside g (s .2) q (s .4) in
       (omega arith, y .1)
 
   -- A program ends behind its beginning, and inside the bytes.
   pub program-inside : (program : Program) (p q : ℕ) → ProgramAt bytes n program p q → (p < q) × (q ≤ 8 * length bytes)
   unfolding ProgramAt
-  program-inside end p q s = let x = program-head-inside bytes p .found end-head (p + 2) (s .0) in (omega arith, omega arith)
-  program-inside (act a rest) p q s = let x = program-inside rest (p + 7) q (s .1) in (omega arith, x .1)
+  program-inside end p q s = program-head-inside bytes p .found end-head q s
+  program-inside (act a rest) p q s =
+      let h = program-head-inside bytes p .found (act-head a) (s .0) (s .1) in
+      let x = program-inside rest (s .0) q (s .2) in
+      (omega arith, x .1)
   program-inside (branch f y z rest) p q s =
-      let parts = s .1 in
-      let a = epistemic-inside f (p + 2) (parts .then-at) (parts .condition-stands) in
+      let h = program-head-inside bytes p .found branch-head (s .0) (s .1) in
+      let parts = s .2 in
+      let a = epistemic-inside f (s .0) (parts .then-at) (parts .condition-stands) in
       let b = program-inside y (parts .then-at) (parts .else-at) (parts .then-stands) in
       let c = program-inside z (parts .else-at) (parts .rest-at) (parts .else-stands) in
       let d = program-inside rest (parts .rest-at) q (parts .rest-stands) in
       (omega arith, d .1)
 
--- The fields of a sheet, where the program is read by any reader whose programs stand where they are read.
-module _ (bytes : List ℕ) (short : length bytes ≤ 1024) (programOf : (n k : ℕ) → Reader ProgramRead) where
-  with-standing : ((n k p : ℕ) → Finds bytes p (λ c q. ProgramAt bytes n (c .program) p q) (programOf n k))
-      → Finds bytes 0 (λ sheet q. isPadding bytes q ≡ true → Standing bytes sheet) (fieldsWith programOf)
-  unfolding isPadding
-  with-standing stands =
-      finds-field bytes 0 Q 4 4 refl _ (λ edition e low. finds-check bytes 4 Q (isEdition edition) 3 _ (λ t.
-      finds-field bytes 4 Q 4 8 refl _ (λ n h low′. finds-check bytes 8 Q (leb 1 n && leb n 8) 4 _ (λ u.
-      finds-field bytes 8 Q 5 13 refl _ (λ k l low″.
-      finds-behind bytes 13 Q (actionList n k) _ (λ actions start-at ha.
-      finds-behind bytes start-at Q (objective n false 16) _ (λ start goal-at hs.
-      finds-behind bytes goal-at Q (epistemic n 16) _ (λ goal program-at hg.
-      finds-behind bytes program-at Q (programOf n k) _ (λ c end-at hp.
-      finds-give bytes end-at Q _ (λ padded.
-      let v = both-true (ltb (8 * length bytes - end-at) 8) _ padded in
-      let stand = stands n k program-at .found c end-at hp in
-      let i = program-inside bytes n (c .program) program-at end-at stand in
-      record {
-        short = short;
-        header-read = rw (list-few n k bytes 13 actions start-at ha .0) (header-got bytes e t h u l);
-        start-at = start-at;
-        goal-at = goal-at;
-        program-at = program-at;
-        end-at = end-at;
-        actions-stand = standing-actions bytes n k 13 .found actions start-at ha;
-        start-stands = hs;
-        goal-read = hg;
-        goal-stands = standing-epistemic bytes n 16 (omega arith) goal-at .found goal program-at hg;
-        program-stands = stand;
-        inside = i .1;
-        spare = omega (arith, ltb-true (8 * length bytes - end-at) 8 (v .0));
-        padded = padded;
-      }))))))))))
-    where
-      Q : Sheet → ℕ → Type 0
-      Q sheet q = isPadding bytes q ≡ true → Standing bytes sheet
-
+-- The fields of a sheet stand where they are read.
 fields-standing : (bytes : List ℕ) → length bytes ≤ 1024 → Finds bytes 0 (λ sheet q. isPadding bytes q ≡ true → Standing bytes sheet) sheetFields
-unfolding sheetFields
-fields-standing bytes short = with-standing bytes short (λ n k. programWithin n k 128 0 0) (λ n k p. standing-program bytes n k 128 0 0 p)
+unfolding isPadding
+fields-standing bytes short =
+    finds-behind bytes 0 Q header body (λ h actions-at hh.
+    finds-behind bytes actions-at Q (actionList (h .facts) (h .actions)) _ (λ actions start-at ha.
+    finds-behind bytes start-at Q (objective (h .facts) false 16) _ (λ start goal-at hs.
+    finds-behind bytes goal-at Q (epistemic (h .facts) 16) _ (λ goal program-at hg.
+    finds-behind bytes program-at Q (program (h .facts) (h .actions)) _ (λ c end-at hp.
+    finds-give bytes end-at Q _ (λ padded.
+    let v = both-true (ltb (8 * length bytes - end-at) 8) _ padded in
+    let stand = standing-program bytes (h .facts) (h .actions) program-at .found c end-at hp in
+    let i = program-inside bytes (h .facts) (c .program) program-at end-at stand in
+    record {
+      short = short;
+      actions-at = actions-at;
+      header-read = rw (list-few (h .facts) (h .actions) bytes actions-at actions start-at ha .0) hh;
+      start-at = start-at;
+      goal-at = goal-at;
+      program-at = program-at;
+      end-at = end-at;
+      actions-stand = standing-actions bytes (h .facts) (h .actions) actions-at .found actions start-at ha;
+      start-stands = hs;
+      goal-read = hg;
+      goal-stands = standing-epistemic bytes (h .facts) 16 (omega arith) goal-at .found goal program-at hg;
+      program-stands = stand;
+      inside = i .1;
+      spare = omega (arith, ltb-true (8 * length bytes - end-at) 8 (v .0));
+      padded = padded;
+    }))))))
+  where
+    Q : Sheet → ℕ → Type 0
+    Q sheet q = isPadding bytes q ≡ true → Standing bytes sheet
 
 -- The parts of an accepted sheet stand in its bytes.
 pub accepted-standing : (bytes : List ℕ) (sheet : Sheet) → reading bytes ≡ accepted sheet → Standing bytes sheet

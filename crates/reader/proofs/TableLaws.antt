@@ -11,12 +11,12 @@ use Rattle.states.specs.declared.States.{States}
 use Rattle.states.specs.Sets.{member, setOf}
 use Rattle.states.proofs.SetLaws.{member-setOf, set-cong}
 use Rattle.reader.specs.declared.formula.View.{View}
-use Rattle.reader.specs.Syntax.{Objective, fact, new-fact, negation, conjunction, disjunction, equivalence}
-use Rattle.reader.specs.Truth.{factIn, truth}
-use Rattle.reader.specs.Format.{Read, got, fault, Reader, _>>=_, mapped, give, refuse, check, factNumber, objectiveBehind}
+use Rattle.format.specs.Syntax.{Objective, fact, new-fact, negation, conjunction, disjunction, equivalence}
+use Rattle.format.specs.Truth.{factIn, truth}
+use Rattle.format.specs.Format.{Read, got, fault, Reader, _>>=_, mapped, give, refuse, check, factNumber, objectiveBehind}
 use Rattle.reader.specs.Answers.{table}
 use Rattle.reader.specs.Tables.{fromOf, toOf, joined}
-use Rattle.reader.proofs.FormatLaws.{behind-got, behind-fault}
+use Rattle.format.proofs.FormatLaws.{behind-got, behind-fault}
 use Rattle.reader.proofs.ReaderLaws.{mapped-got, mapped-fault, mapped-same, mapped-give}
 
 module _ (from to : ℕ → ℕ) where
@@ -152,7 +152,6 @@ pub table-true : (view : View) (f : Objective) → table view f ≡ trueAt (from
 unfolding table fromOf toOf
 table-true View.States f = refl
 table-true (View.Next s) f = refl
-table-true (View.Before next) f = refl
 
 -- So are the sets that are read.
 pub tables-true : (view : View) (x : Read Objective) → mapped (table view) x ≡ mapped (trueAt (fromOf view) (toOf view)) x

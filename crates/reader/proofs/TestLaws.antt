@@ -14,13 +14,13 @@ use Rattle.lists.proofs.ListLaws.{or-assoc, or-none, two-cases, same-test, not-
 use Rattle.states.specs.declared.States.{States}
 use Rattle.states.specs.Sets.{member, setOf, members}
 use Rattle.states.proofs.SetLaws.{member-setOf, set-cong, members-mem, mem-members}
-use Rattle.reader.specs.Syntax.{Objective, bottom, Action, change, probe, replyCount}
-use Rattle.reader.specs.Truth.{truth, holds, moves, answers}
-use Rattle.reader.specs.Format.{Read, got, fault, Reader, andThen, mapped, _>>=_, give, refuse, check, field, objective, objectives, actionBehind, action, actionList, unless}
+use Rattle.format.specs.Syntax.{Objective, bottom, Action, change, probe, replyCount}
+use Rattle.format.specs.Truth.{truth, holds, moves, answers}
+use Rattle.format.specs.Format.{Read, got, fault, Reader, andThen, mapped, _>>=_, give, refuse, check, field, objective, objectives, Kind, changes, probes, kind, replyNumber, replies, actionBehind, action, actionList, unless, leadsOn, hasReply, actionFaults}
 use Rattle.reader.specs.Answers.{ending, table}
-use Rattle.reader.specs.Stages.{someHolds, probeReplies, actionFaults, ended, tested, testedList}
+use Rattle.reader.specs.Stages.{someHolds, ended, tested, testedList}
 use Rattle.reader.specs.declared.formula.View.{View}
-use Rattle.reader.proofs.FormatLaws.{behind-got, behind-fault}
+use Rattle.format.proofs.FormatLaws.{behind-got, behind-fault}
 use Rattle.reader.proofs.ReaderLaws.{mapped-got, mapped-fault, mapped-same, mapped-give}
 
 module _ {A B : Type 0} (g : A → B) where
@@ -124,53 +124,48 @@ module _ (n : ℕ) (s : List ℕ) (p : ℕ) where
 
 module _ (n : ℕ) (s : List ℕ) (p : ℕ) where
   -- The replies of a probe are cut where their count is.
-  pub replies-cut : {r : ℕ} → field 4 s p ≡ fault r → probeReplies n s p ≡ fault r
-  unfolding probeReplies _>>=_ andThen
+  pub replies-cut : {r : ℕ} → field 4 s p ≡ fault r → replies n s p ≡ fault r
+  unfolding replies replyNumber _>>=_ andThen
   replies-cut e = rw e
 
   -- A count below 1 is refused.
-  pub replies-few : {m q : ℕ} → field 4 s p ≡ got m q → m < 1 → probeReplies n s p ≡ fault 5
-  unfolding probeReplies _>>=_ andThen check refuse
+  pub replies-few : {m q : ℕ} → field 4 s p ≡ got m q → m < 1 → replies n s p ≡ fault 5
+  unfolding replies replyNumber _>>=_ andThen check refuse
   replies-few {m} e h = rw (e, lt-leb 1 m h)
 
   -- A count above 8 is refused.
-  pub replies-many : {m q : ℕ} → field 4 s p ≡ got m q → 8 < m → probeReplies n s p ≡ fault 5
-  unfolding probeReplies _>>=_ andThen check refuse
+  pub replies-many : {m q : ℕ} → field 4 s p ≡ got m q → 8 < m → replies n s p ≡ fault 5
+  unfolding replies replyNumber _>>=_ andThen check refuse
   replies-many {m} e h = rw (e, le-leb 1 m (omega arith), lt-leb m 8 h)
 
   -- Behind a count from 1 to 8 so many formulas are read.
-  pub replies-counted : {m q : ℕ} → field 4 s p ≡ got m q → 1 ≤ m → m ≤ 8 → probeReplies n s p ≡ objectives n m s q
-  unfolding probeReplies _>>=_ andThen check
+  pub replies-counted : {m q : ℕ} → field 4 s p ≡ got m q → 1 ≤ m → m ≤ 8 → replies n s p ≡ objectives n m s q
+  unfolding replies replyNumber _>>=_ andThen check give
   replies-counted {m} e h k = rw (e, le-leb 1 m h, le-leb m 8 k)
 
-  -- A probe behind its kind is made of its replies.
-  behind-probe : (field 4 >>= λ m. check (leb 1 m && leb m 8) 5 (objectives n m >>= λ fs. give (probe fs))) s p ≡ mapped probe (probeReplies n s p)
-  unfolding probeReplies _>>=_ andThen mapped check refuse
-  behind-probe = go (field 4 s p)
-    where
-      choice : (b : Bool) (m q : ℕ) → check b 5 (objectives n m >>= λ fs. give (probe fs)) s q ≡ mapped probe (check b 5 (objectives n m) s q)
-      choice true m q = give-mapped probe (objectives n m) s q
-      choice false m q = refl
-
-      go : (o : Read ℕ) → andThen o (λ m q. check (leb 1 m && leb m 8) 5 (objectives n m >>= λ fs. give (probe fs)) s q) ≡ mapped probe (andThen o (λ m q. check (leb 1 m && leb m 8) 5 (objectives n m) s q))
-      go (got m q) = choice (leb 1 m && leb m 8) m q
-      go (fault r) = refl
-
 module _ (n : ℕ) (s : List ℕ) (p : ℕ) where
+  kind-is : {bit q : ℕ} → field 1 s p ≡ got bit q → kind s p ≡ got (if eqb bit 0 then changes else probes) q
+  unfolding kind _>>=_ andThen give if_then_else_
+  kind-is {bit} {q} e = rw e (go (eqb bit 0))
+    where
+      go : (b : Bool) → (if b then give changes else give probes) s q ≡ got (if b then changes else probes) q
+      go true = refl
+      go false = refl
+
   -- An action is cut where its kind is.
   pub action-cut : {r : ℕ} → field 1 s p ≡ fault r → action n s p ≡ fault r
-  unfolding action
-  action-cut e = behind-fault (field 1) (actionBehind n) s p e
+  unfolding action kind _>>=_ andThen
+  action-cut e = rw e
 
   -- Kind 0 is a change, made of its theory.
-  pub action-change : {kind q : ℕ} → field 1 s p ≡ got kind q → kind ≡ 0 → action n s p ≡ mapped change (objective n true 16 s q)
+  pub action-change : {bit q : ℕ} → field 1 s p ≡ got bit q → bit ≡ 0 → action n s p ≡ mapped change (objective n true 16 s q)
   unfolding action actionBehind if_then_else_
-  action-change {kind} {q} e z = behind-got (field 1) (actionBehind n) s p e ∙ rw z (give-mapped change (objective n true 16) s q)
+  action-change {bit} {q} e z = behind-got kind (actionBehind n) s p (kind-is e) ∙ rw z (give-mapped change (objective n true 16) s q)
 
   -- Any other kind is a probe, made of its replies.
-  pub action-probe : {kind q : ℕ} → field 1 s p ≡ got kind q → (kind ≡ 0 → ⊥) → action n s p ≡ mapped probe (probeReplies n s q)
+  pub action-probe : {bit q : ℕ} → field 1 s p ≡ got bit q → (bit ≡ 0 → ⊥) → action n s p ≡ mapped probe (replies n s q)
   unfolding action actionBehind if_then_else_
-  action-probe {kind} {q} e z = behind-got (field 1) (actionBehind n) s p e ∙ rw (ne-eqb kind 0 z) (behind-probe n s q)
+  action-probe {bit} {q} e z = behind-got kind (actionBehind n) s p (kind-is e) ∙ rw (ne-eqb bit 0 z) (give-mapped probe (replies n) s q)
 
   -- Actions, one and those behind it: the first is found, or refused; or there is none.
   actions-got : (k : ℕ) {a : Action} {q : ℕ} → action n s p ≡ got a q → mapped ending (actionList n (suc k) s p) ≡ mapped ending (actionList n k s q)
@@ -240,7 +235,7 @@ module _ (space : List ℕ) where
   -- The tests of an action, by what each tells.
   tested-by : (a : Action) (p : ℕ) {x y : Bool} → every (λ s. exists (λ t. moves a s t) space) space ≡ x → every (λ s. exists (λ r. answers a r s) (below (replyCount a))) space ≡ y
       → tested space (got a p) ≡ ended (unless x 14 ++ unless y 15) p
-  unfolding tested actionFaults
+  unfolding tested actionFaults leadsOn hasReply
   tested-by a p e f = rw (e, f)
 
   -- A change gives reply 0 in every state, and a probe leads from every state to itself.
@@ -336,37 +331,20 @@ module _ (space set apart : States) (e : apart ≡ setOf (λ s. member space s &
 
 -- The search for a next state of each state of the space.
 module _ (theory : Objective) (space : States) where
-  -- Every state of the space before the one to try has a next state in it, and so has every state that is served.
-  pub record Served (old : ℕ) (served : States) : Type 0 where
-    pub tried : (s : ℕ) → s < old → member space s ≡ true → leads theory (members space) s ≡ true
-    pub known : (s : ℕ) → s < 256 → member served s ≡ true → leads theory (members space) s ≡ true
+  -- Every state of the space before the one to try has a next state in it.
+  abbrev pub Tried : (old : ℕ) → Type 0
+  Tried old = (s : ℕ) → s < old → member space s ≡ true → leads theory (members space) s ≡ true
 
-  -- One state more is tried.
-  tried-more : {old : ℕ} {served : States} → Served old served → (member space old ≡ true → leads theory (members space) old ≡ true)
-      → (s : ℕ) → s < old + 1 → member space s ≡ true → leads theory (members space) s ≡ true
+  pub tried-first : Tried 0
+  tried-first s l m = absurd (omega arith)
+
+  tried-more : {old : ℕ} → Tried old → (member space old ≡ true → leads theory (members space) old ≡ true) → Tried (old + 1)
   tried-more {old} h now s less m =
-      ⊎-elim (λ (e : s ≡ old). ap (leads theory (members space)) e ∙ now (ap (member space) (sym e) ∙ m)) (λ l. h .tried s l m) (eq-or-lt-of-le (omega arith))
-
-  -- At first none is tried, and those are served that are known to be.
-  pub served-first : {first : States} → ((s : ℕ) → s < 256 → member first s ≡ true → leads theory (members space) s ≡ true) → Served 0 first
-  served-first h = record { tried = λ s l m. absurd (omega arith); known = h }
-
-  -- The states from which state 0 follows are known to be, where state 0 is in the space.
-  pub first-known : {before first : States} → before ≡ table (View.Before 0) theory → first ≡ setOf (λ x. member before x && member space 0)
-      → (s : ℕ) → s < 256 → member first s ≡ true → leads theory (members space) s ≡ true
-  unfolding table
-  first-known {before} b f s l m =
-      let both = both-true (member before s) (member space 0) (sym (ap (λ (x : States). member x s) f ∙ member-setOf (λ x. member before x && member space 0) s l) ∙ m) in
-      mem-exists (λ t. truth theory s t) (members space) (mem-members space 0 (omega arith) (both .1))
-      (sym (ap (λ (x : States). member x s) b ∙ member-setOf (λ x. truth theory x 0) s l) ∙ both .0)
+      ⊎-elim (λ (e : s ≡ old). ap (leads theory (members space)) e ∙ now (ap (member space) (sym e) ∙ m)) (λ l. h s l m) (eq-or-lt-of-le (omega arith))
 
   -- A state outside the space needs no try.
-  pub served-outside : {old : ℕ} {served : States} → Served old served → member space old ≡ false → Served (old + 1) served
-  served-outside h out = record { tried = tried-more h (λ m. not-both m out); known = h .known }
-
-  -- Nor does one that is served.
-  pub served-known : {old : ℕ} {served : States} → Served old served → old < 256 → member served old ≡ true → Served (old + 1) served
-  served-known {old} h l m = record { tried = tried-more h (λ i. h .known old l m); known = h .known }
+  pub tried-outside : {old : ℕ} → Tried old → member space old ≡ false → Tried (old + 1)
+  tried-outside h out = tried-more h (λ m. not-both m out)
 
   -- The next states of a state that are in the space.
   row-leads : (old new : ℕ) (after row : States) → after ≡ table (View.Next old) theory → row ≡ setOf (λ t. member after t && member space t) → new < 256
@@ -377,34 +355,18 @@ module _ (theory : Objective) (space : States) where
       ∙ ap (λ (b : Bool). b && member space new) (ap (λ (x : States). member x new) a ∙ member-setOf (λ t. truth theory old t) new l)
 
   -- A next state is found.
-  pub served-alone : {old new : ℕ} {served after row : States} → Served old served → new < 256
-      → after ≡ table (View.Next old) theory → row ≡ setOf (λ t. member after t && member space t) → member row new ≡ true → Served (old + 1) served
-  served-alone {old} {new} {served} {after} {row} h l a e m =
+  pub tried-found : {old new : ℕ} {after row : States} → Tried old → new < 256
+      → after ≡ table (View.Next old) theory → row ≡ setOf (λ t. member after t && member space t) → member row new ≡ true → Tried (old + 1)
+  tried-found {old} {new} {after} {row} h l a e m =
       let both = both-true (truth theory old new) (member space new) (sym (row-leads old new after row a e l) ∙ m) in
       let here : List·Memᴰ new (members space) = mem-members space new l (both .1) in
-      record { tried = tried-more h (λ i. mem-exists (λ t. truth theory old t) (members space) here (both .0)); known = h .known }
-
-  -- A next state is found: the states that it serves are served.
-  pub served-found : {old new : ℕ} {served after row before joined : States} → Served old served → new < 256
-      → after ≡ table (View.Next old) theory → row ≡ setOf (λ t. member after t && member space t) → member row new ≡ true
-      → before ≡ table (View.Before new) theory → joined ≡ setOf (λ s. member served s || member before s) → Served (old + 1) joined
-  unfolding table
-  served-found {old} {new} {served} {after} {row} {before} {joined} h l a e m b u =
-      let both = both-true (truth theory old new) (member space new) (sym (row-leads old new after row a e l) ∙ m) in
-      let here : List·Memᴰ new (members space) = mem-members space new l (both .1) in
-      record {
-        tried = served-alone h l a e m .tried;
-        known = λ s less i.
-            ⊎-elim (λ k. h .known s less k)
-            (λ k. mem-exists (λ t. truth theory s t) (members space) here (sym (ap (λ (x : States). member x s) b ∙ member-setOf (λ s. truth theory s new) s less) ∙ k))
-            (one-true (member served s) (member before s) (sym (ap (λ (x : States). member x s) u ∙ member-setOf (λ s. member served s || member before s) s less) ∙ i));
-      }
+      tried-more h (λ i. mem-exists (λ t. truth theory old t) (members space) here (both .0))
 
   -- A state of the space has no next state: the theory doesn't lead on.
-  pub served-stuck : (old : ℕ) (after row : States) → old < 256 → member space old ≡ true → after ≡ table (View.Next old) theory
+  pub tried-stuck : (old : ℕ) (after row : States) → old < 256 → member space old ≡ true → after ≡ table (View.Next old) theory
       → row ≡ setOf (λ t. member after t && member space t) → ((t : ℕ) → member space t ≡ true → member row t ≡ false)
       → every (leads theory (members space)) (members space) ≡ false
-  served-stuck old after row l i a e none =
+  tried-stuck old after row l i a e none =
       same-test (every (leads theory (members space)) (members space)) false
       (λ all. let r = exists-mem (λ t. truth theory old t) (members space) (every-mem (leads theory (members space)) (members space) all (mem-members space old l i)) in
       let k = members-mem space (r .1) in
@@ -412,8 +374,8 @@ module _ (theory : Objective) (space : States) where
       (λ z. not-both z refl)
 
   -- Every state is tried: the theory leads on.
-  pub served-all : {size : ℕ} {served : States} → ((s : ℕ) → member space s ≡ true → s < size) → Served size served → every (leads theory (members space)) (members space) ≡ true
-  served-all few h = mem-every (leads theory (members space)) (members space) (λ s m. let k = members-mem space m in h .tried s (few s (k .1)) (k .1))
+  pub tried-all : {size : ℕ} → ((s : ℕ) → member space s ≡ true → s < size) → Tried size → every (leads theory (members space)) (members space) ≡ true
+  tried-all few h = mem-every (leads theory (members space)) (members space) (λ s m. let k = members-mem space m in h s (few s (k .1)) (k .1))
 
 -- No state below one is in a set; one more is passed over.
 pub none-more : (row : States) (new : ℕ) → ((t : ℕ) → t < new → member row t ≡ false) → member row new ≡ false → (t : ℕ) → t < new + 1 → member row t ≡ false

@@ -3,9 +3,9 @@ use Prim.Native.Nat.{ℕ}
 use mathlib.Core.Bool.{Bool, true, false}
 use Rattle.states.specs.declared.States.{States}
 use Rattle.states.specs.Sets.{setOf}
-use Rattle.reader.specs.Syntax.{Objective}
-use Rattle.reader.specs.Truth.{truth}
-use Rattle.reader.specs.Format.{Answer, accepted, refused, Read, got, fault, ProgramRead}
+use Rattle.format.specs.Syntax.{Objective, Sheet}
+use Rattle.format.specs.Truth.{truth}
+use Rattle.format.specs.Format.{Answer, accepted, refused, Read, got, fault, ProgramRead}
 use Rattle.reader.specs.declared.refusal.Refusal.{Refusal}
 use Rattle.reader.specs.declared.bits.Field.{Field}
 use Rattle.reader.specs.declared.formula.View.{View}
@@ -67,7 +67,6 @@ countRead (Counted.Refused r) = fault (numberOf r)
 unfoldable pub inTheory : View → Bool
 inTheory View.States = false
 inTheory (View.Next s) = true
-inTheory (View.Before t) = true
 
 -- The set of a formula in a view: the states in which it holds; of a theory, the next states that it allows from a state, or the states from which it
 -- allows a next state.
@@ -75,7 +74,11 @@ unfoldable pub table : View → Objective → States
 unfolding setOf truth
 table View.States f = setOf (λ s. truth f s s)
 table (View.Next s) f = setOf (λ t. truth f s t)
-table (View.Before t) f = setOf (λ s. truth f s t)
+
+-- The states in which a sheet's start formula holds.
+unfoldable pub startSet : Sheet → States
+unfolding table
+startSet sheet = table View.States (sheet .start)
 
 -- Only where something ends; the nodes counted up to the end of a program.
 unfoldable pub ending : {A : Type 0} → A → Unit {0}

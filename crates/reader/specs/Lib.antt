@@ -1,7 +1,3 @@
-pub mod Syntax
-pub mod Truth
-pub mod Bits
-pub mod Format
 pub mod Nodes
 pub mod Standing
 pub mod Answers

@@ -1,16 +1,29 @@
 -- What the answers of the walking functions (src/nodes.rt) mean: what the readers of specs/Nodes.antt find.
-use Rattle.reader.specs.Format.{Read, got, fault}
-use Rattle.reader.specs.Nodes.{Header, ActionHead, change-head, probe-head, EpistemicHead, known-head, not-known-head, all-of-head, any-of-head, ProgramHead, end-head, act-head, branch-head}
+use Prim.Native.Nat.{ℕ}
+use Rattle.states.specs.declared.States.{States}
+use Rattle.states.specs.Sets.{setOf}
+use Rattle.format.specs.Truth.{inSpace}
+use Rattle.format.specs.Format.{Read, got, fault, Header, EpistemicHead, known-head, not-known-head, all-of-head, any-of-head, ProgramHead, end-head, act-head, branch-head}
+use Rattle.reader.specs.Nodes.{ActionHead, change-head, probe-head}
 use Rattle.reader.specs.Answers.{numberOf}
-use Rattle.reader.specs.declared.nodes.HeaderRead.{HeaderRead}
+use Rattle.reader.specs.declared.layout.Header.{Header as HeaderValue}
+use Rattle.reader.specs.declared.layout.HeaderRead.{HeaderRead}
 use Rattle.reader.specs.declared.nodes.ActionNode.{ActionNode}
 use Rattle.reader.specs.declared.nodes.EpistemicNode.{EpistemicNode}
 use Rattle.reader.specs.declared.nodes.ProgramNode.{ProgramNode}
 
--- The numbers of facts and of actions, behind which the actions begin at position 13.
-unfoldable pub headerRead : HeaderRead → Read Header
-unfolding numberOf
-headerRead (HeaderRead.Counts n k) = got (record { facts = n; actions = k }) 13
+-- A header with its states as a set.
+unfoldable pub spaced : Header → Header × States
+unfolding setOf inSpace
+spaced h = (h, setOf (inSpace (h .facts)))
+
+-- What the code's header says, and the position behind it.
+unfoldable pub headerOf : HeaderValue → Header
+headerOf h = record { facts = h .facts; actions = h .actions }
+
+unfoldable pub headerRead : HeaderRead → Read (Header × States)
+unfolding numberOf headerOf
+headerRead (HeaderRead.Read h) = got (headerOf h, h .space) (h .at)
 headerRead (HeaderRead.Refused r) = fault (numberOf r)
 
 -- The first node of an action and the position after it.

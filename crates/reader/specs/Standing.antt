@@ -5,9 +5,9 @@ use mathlib.Core.Path.{_≡_}
 use mathlib.Core.List.{List, [], _∷_}
 use mathlib.Core.Bool.{Bool, true, false}
 use lib.ListN.{length}
-use Rattle.reader.specs.Syntax.{Objective, Epistemic, known, not-known, all-of, any-of, Program, end, act, branch, Action, change, probe, Sheet}
-use Rattle.reader.specs.Format.{got, deepest, objective, epistemic, isPadding}
-use Rattle.reader.specs.Nodes.{change-head, probe-head, known-head, not-known-head, all-of-head, any-of-head, end-head, act-head, branch-head, header, actionHead, epistemicHead, programHead}
+use Rattle.format.specs.Syntax.{Objective, Epistemic, known, not-known, all-of, any-of, Program, end, act, branch, Action, change, probe, Sheet}
+use Rattle.format.specs.Format.{got, known-head, not-known-head, all-of-head, any-of-head, epistemicHead, end-head, act-head, branch-head, programHead, deepest, objective, epistemic, header, isPadding}
+use Rattle.reader.specs.Nodes.{change-head, probe-head, actionHead}
 
 -- Where the parts of a branch stand behind its tag, from p to q: its condition, which C says is read and F that it stands, its then-program, its else-program and
 -- its rest, one after the other.
@@ -34,8 +34,8 @@ module _ (bytes : List ℕ) (n : ℕ) where
   -- An action stands from p to q.
   unfoldable pub ActionAt : Action → (p q : ℕ) → Type 0
   unfolding RepliesAt
-  ActionAt (change f) p q = (actionHead bytes p ≡ got change-head (p + 1)) × ObjectiveAt true f (p + 1) q
-  ActionAt (probe fs) p q = (actionHead bytes p ≡ got (probe-head (length fs)) (p + 5)) × RepliesAt fs (p + 5) q
+  ActionAt (change f) p q = (r : ℕ) × (actionHead bytes p ≡ got change-head r) × ObjectiveAt true f r q
+  ActionAt (probe fs) p q = (r : ℕ) × (actionHead bytes p ≡ got (probe-head (length fs)) r) × RepliesAt fs r q
 
   -- Actions stand from p to q, one after the other.
   unfoldable pub ActionsAt : List Action → (p q : ℕ) → Type 0
@@ -45,10 +45,10 @@ module _ (bytes : List ℕ) (n : ℕ) where
 
   -- An epistemic formula stands from p to q.
   unfoldable pub EpistemicAt : Epistemic → (p q : ℕ) → Type 0
-  EpistemicAt (known f) p q = (epistemicHead bytes p ≡ got known-head (p + 2)) × ObjectiveAt false f (p + 2) q
-  EpistemicAt (not-known f) p q = (epistemicHead bytes p ≡ got not-known-head (p + 2)) × ObjectiveAt false f (p + 2) q
-  EpistemicAt (all-of f g) p q = (epistemicHead bytes p ≡ got all-of-head (p + 2)) × (r : ℕ) × EpistemicAt f (p + 2) r × EpistemicAt g r q
-  EpistemicAt (any-of f g) p q = (epistemicHead bytes p ≡ got any-of-head (p + 2)) × (r : ℕ) × EpistemicAt f (p + 2) r × EpistemicAt g r q
+  EpistemicAt (known f) p q = (r : ℕ) × (epistemicHead bytes p ≡ got known-head r) × ObjectiveAt false f r q
+  EpistemicAt (not-known f) p q = (r : ℕ) × (epistemicHead bytes p ≡ got not-known-head r) × ObjectiveAt false f r q
+  EpistemicAt (all-of f g) p q = (i : ℕ) × (epistemicHead bytes p ≡ got all-of-head i) × (r : ℕ) × EpistemicAt f i r × EpistemicAt g r q
+  EpistemicAt (any-of f g) p q = (i : ℕ) × (epistemicHead bytes p ≡ got any-of-head i) × (r : ℕ) × EpistemicAt f i r × EpistemicAt g r q
 
   -- An epistemic formula is read from p to q.
   abbrev pub EpistemicRead : Epistemic → (p q : ℕ) → Type 0
@@ -57,20 +57,21 @@ module _ (bytes : List ℕ) (n : ℕ) where
   -- A program stands from p to q.
   unfoldable pub ProgramAt : Program → (p q : ℕ) → Type 0
   unfolding EpistemicAt
-  ProgramAt end p q = (programHead bytes p ≡ got end-head (p + 2)) × (p + 2 ≡ q)
-  ProgramAt (act a rest) p q = (programHead bytes p ≡ got (act-head a) (p + 7)) × ProgramAt rest (p + 7) q
-  ProgramAt (branch f y z rest) p q = (programHead bytes p ≡ got branch-head (p + 2)) × BranchAt (EpistemicRead f) (EpistemicAt f) (ProgramAt y) (ProgramAt z) (ProgramAt rest) (p + 2) q
+  ProgramAt end p q = programHead 0 0 bytes p ≡ got end-head q
+  ProgramAt (act a rest) p q = (r : ℕ) × (programHead 0 0 bytes p ≡ got (act-head a) r) × ProgramAt rest r q
+  ProgramAt (branch f y z rest) p q = (r : ℕ) × (programHead 0 0 bytes p ≡ got branch-head r) × BranchAt (EpistemicRead f) (EpistemicAt f) (ProgramAt y) (ProgramAt z) (ProgramAt rest) r q
 
 -- Where the parts of a sheet stand: behind its header the actions, the start formula, the goal and the program, one after the other, and fewer than 8 bits behind
 -- these the end of the bytes.
 pub record Standing (bytes : List ℕ) (sheet : Sheet) : Type 0 where
   pub short : length bytes ≤ 1024
-  pub header-read : header bytes 0 ≡ got (record { facts = sheet .facts; actions = length (sheet .actions) }) 13
+  pub actions-at : ℕ
+  pub header-read : header bytes 0 ≡ got (record { facts = sheet .facts; actions = length (sheet .actions) }) actions-at
   pub start-at : ℕ
   pub goal-at : ℕ
   pub program-at : ℕ
   pub end-at : ℕ
-  pub actions-stand : ActionsAt bytes (sheet .facts) (sheet .actions) 13 start-at
+  pub actions-stand : ActionsAt bytes (sheet .facts) (sheet .actions) actions-at start-at
   pub start-stands : ObjectiveAt bytes (sheet .facts) false (sheet .start) start-at goal-at
   pub goal-read : EpistemicRead bytes (sheet .facts) (sheet .goal) goal-at program-at
   pub goal-stands : EpistemicAt bytes (sheet .facts) (sheet .goal) goal-at program-at

@@ -5,19 +5,17 @@ use lib.Dec.{eqb}
 use Rattle.lists.specs.Lists.{if_then_else_}
 use Rattle.states.specs.declared.States.{States}
 use Rattle.states.specs.Sets.{setOf}
-use Rattle.reader.specs.Truth.{factIn}
+use Rattle.format.specs.Truth.{factIn}
 use Rattle.reader.specs.declared.formula.View.{View}
 
 -- The state and the next state at which a view has a formula evaluated for its state t.
 unfoldable pub fromOf : View → ℕ → ℕ
 fromOf View.States t = t
 fromOf (View.Next s) t = s
-fromOf (View.Before next) t = t
 
 unfoldable pub toOf : View → ℕ → ℕ
 toOf View.States t = t
 toOf (View.Next s) t = t
-toOf (View.Before next) t = next
 
 -- The states of a view in which fact i is true; as a new fact, it is one of the next state.
 unfoldable pub factTable : (fresh : Bool) → View → (i : ℕ) → States

@@ -16,12 +16,12 @@ ghost use Prim.Native.Nat.{ℕ, _≤_, _<_};
 ghost use lib.ListN.{length};
 ghost use Rattle.lists.specs.Lists.{every, exists};
 ghost use Rattle.states.specs.Sets.{member, setOf, members};
-ghost use Rattle.reader.specs.Syntax.{Objective, change, probe};
-ghost use Rattle.reader.specs.Truth.{truth};
-ghost use Rattle.reader.specs.Format.{got, mapped, objective, objectives, action, actionList};
+ghost use Rattle.format.specs.Syntax.{Objective, change, probe};
+ghost use Rattle.format.specs.Truth.{truth};
+ghost use Rattle.format.specs.Format.{got, mapped, objective, objectives, replies, action, actionList};
 ghost use Rattle.reader.specs.Answers.{setRead, endRead, ending, table};
 ghost use Rattle.reader.specs.declared.formula.View.{View};
-ghost use Rattle.reader.specs.Stages.{someHolds, probeReplies, tested, testedList};
+ghost use Rattle.reader.specs.Stages.{someHolds, tested, testedList};
 
 // m objective formulas: the states in which one of them holds, and where they end.
 fn evaluate_some(s: &[u8], at: usize, m: usize, n: usize) -> Evaluated
@@ -47,7 +47,7 @@ fn evaluate_some(s: &[u8], at: usize, m: usize, n: usize) -> Evaluated
 // A probe behind its kind: the states in which a reply is true, and where it ends.
 fn evaluate_replies(s: &[u8], at: usize, n: usize) -> Evaluated
     requires { ⌜ length (now s) ≤ 1024 ⌝ }
-    ensures { λ r. ⌜ setRead r ≡ mapped someHolds (probeReplies n (now (s .entry)) at) ⌝ }
+    ensures { λ r. ⌜ setRead r ≡ mapped someHolds (replies n (now (s .entry)) at) ⌝ }
 {
     match field_at(s, at, 4) {
         Field::Cut => Evaluated::Refused(Refusal::Cut),
@@ -101,17 +101,6 @@ pub(crate) fn read_actions(s: &[u8], at: usize, n: usize, k: usize) -> Walked
     Walked::To(p)
 }
 
-// The states from which the theory at `at` allows one next state.
-fn states_before(s: &[u8], at: usize, n: usize, next: u8) -> States
-    requires { ⌜ length (now s) ≤ 1024 ⌝ }
-    ensures { λ r. ⌜ ((theory : Objective) (end : ℕ) → objective n true 16 (now (s .entry)) at ≡ got theory end → r ≡ table (View.Before next) theory) ⌝ }
-{
-    match evaluate(s, at, DEPTH, n, View::Before(next)) {
-        Evaluated::Refused(r) => States::empty(),
-        Evaluated::Holds(set, end) => set,
-    }
-}
-
 // The next states that the theory at `at` allows from a state.
 fn states_after(s: &[u8], at: usize, n: usize, state: u8) -> States
     requires { ⌜ length (now s) ≤ 1024 ⌝ }
@@ -123,43 +112,21 @@ fn states_after(s: &[u8], at: usize, n: usize, state: u8) -> States
     }
 }
 
-// A set of states from which state 0 follows, so far as state 0 is in the space.
-fn served_at_first(before: States, space: States) -> States
-    ensures { λ r. ⌜ r ≡ setOf (λ x. member before x && member space 0) ⌝ }
-{
-    if space.has(0) {
-        return before;
-    }
-    States::empty()
-}
-
-// Whether the theory at `at` allows from each state of the space, all of them below `size`, a next state in the space,
-// where the states in `first` are known to have one. Each other state is tried against each next state. As long as that
-// pays, a next state that is found tells by one evaluation which states it serves too; these needn't be tried.
-fn leads_on(s: &[u8], at: usize, n: usize, space: States, size: usize, first: States) -> bool
+// Whether the theory at `at` allows from each state of the space, all of them below `size`, a next state in the space. One
+// evaluation gives the next states of a state.
+fn leads_on(s: &[u8], at: usize, n: usize, space: States, size: usize) -> bool
     requires { ⌜ (length (now s) ≤ 1024) × (size ≤ 256) × ((t : ℕ) → member space t ≡ true → t < size) ⌝ }
-    ensures { λ r. ⌜ ((theory : Objective) (end : ℕ) → objective n true 16 (now (s .entry)) at ≡ got theory end → ((x : ℕ) → x < 256 → member first x ≡ true → exists (λ t. truth theory x t) (members space) ≡ true) → r ≡ every (λ x. exists (λ t. truth theory x t) (members space)) (members space)) ⌝ }
+    ensures { λ r. ⌜ ((theory : Objective) (end : ℕ) → objective n true 16 (now (s .entry)) at ≡ got theory end → r ≡ every (λ x. exists (λ t. truth theory x t) (members space)) (members space)) ⌝ }
 {
-    let mut served = first;
-    let mut pays = true;
     'states: for old in 0..size {
         let state = (old % 256) as u8;
         if !space.has(state) {
-            continue 'states;
-        }
-        if served.has(state) {
             continue 'states;
         }
         let row = states_after(s, at, n, state).intersect(space);
         for new in 0..size {
             let next = (new % 256) as u8;
             if row.has(next) {
-                if !pays {
-                    continue 'states;
-                }
-                let more = states_before(s, at, n, next);
-                served = served.union(more);
-                pays = !more.difference(States::one(state)).is_empty();
                 continue 'states;
             }
         }
@@ -168,16 +135,15 @@ fn leads_on(s: &[u8], at: usize, n: usize, space: States, size: usize, first: St
     true
 }
 
-// The test behind 14 on the theory at `at`: where it ends, or the refusal. The evaluation that finds its end tells from
-// which states state 0 follows.
+// The test behind 14 on the theory at `at`: where it ends, or the refusal.
 fn test_change(s: &[u8], at: usize, n: usize, space: States, size: usize) -> Walked
     requires { ⌜ (length (now s) ≤ 1024) × (size ≤ 256) × ((t : ℕ) → member space t ≡ true → t < size) ⌝ }
     ensures { λ r. ⌜ endRead r ≡ tested (members space) (mapped change (objective n true 16 (now (s .entry)) at)) ⌝ }
 {
-    match evaluate(s, at, DEPTH, n, View::Before(0)) {
+    match evaluate(s, at, DEPTH, n, View::Next(0)) {
         Evaluated::Refused(r) => Walked::Refused(r),
-        Evaluated::Holds(before, end) => {
-            if leads_on(s, at, n, space, size, served_at_first(before, space)) {
+        Evaluated::Holds(row, end) => {
+            if leads_on(s, at, n, space, size) {
                 return Walked::To(end);
             }
             Walked::Refused(Refusal::NoNext)
@@ -188,7 +154,7 @@ fn test_change(s: &[u8], at: usize, n: usize, space: States, size: usize) -> Wal
 // The test behind 15 on the replies at `at`: where they end, or the refusal.
 fn test_probe(s: &[u8], at: usize, n: usize, space: States) -> Walked
     requires { ⌜ length (now s) ≤ 1024 ⌝ }
-    ensures { λ r. ⌜ endRead r ≡ tested (members space) (mapped probe (probeReplies n (now (s .entry)) at)) ⌝ }
+    ensures { λ r. ⌜ endRead r ≡ tested (members space) (mapped probe (replies n (now (s .entry)) at)) ⌝ }
 {
     match evaluate_replies(s, at, n) {
         Evaluated::Refused(r) => Walked::Refused(r),

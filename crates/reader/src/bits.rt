@@ -2,8 +2,8 @@
 ghost use mathlib.Core.Path.{_≡_};
 ghost use Prim.Native.Nat.{ℕ, _+_, _-_, _*_, _/_, _%_, _^_, _≤_, _<_};
 ghost use lib.ListN.{length};
-ghost use Rattle.reader.specs.Bits.{bitAt, bitsAt};
-ghost use Rattle.reader.specs.Format.{field};
+ghost use Rattle.format.specs.Bits.{bitAt, bitsAt};
+ghost use Rattle.format.specs.Format.{field};
 ghost use Rattle.reader.specs.Answers.{fieldRead};
 
 // A field's value and the position after it, or a sheet that ends inside it.

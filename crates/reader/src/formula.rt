@@ -9,8 +9,8 @@ ghost use mathlib.Core.Bool.{true, false};
 ghost use Prim.Native.Nat.{_≤_, _<_};
 ghost use lib.ListN.{length};
 ghost use Rattle.states.specs.Sets.{member, setOf};
-ghost use Rattle.reader.specs.Truth.{factIn};
-ghost use Rattle.reader.specs.Format.{mapped, factNumber, objective, epistemic};
+ghost use Rattle.format.specs.Truth.{factIn};
+ghost use Rattle.format.specs.Format.{mapped, factNumber, objective, epistemic};
 ghost use Rattle.reader.specs.Answers.{setRead, endRead, inTheory, table, ending};
 ghost use Rattle.reader.specs.Tables.{factTable, joined};
 
@@ -26,8 +26,6 @@ pub enum View {
     States,
     // In a theory: each next state of one state.
     Next(u8),
-    // In a theory: each state, for one next state.
-    Before(u8),
 }
 
 // The position after what was read, or why it was refused.
@@ -88,12 +86,6 @@ fn seen(i: usize, fresh: bool, view: View) -> States
             }
             States::uniform((wide(state) >> i) % 2 == 1)
         }
-        View::Before(next) => {
-            if fresh {
-                return States::uniform((wide(next) >> i) % 2 == 1);
-            }
-            holding_fact(i)
-        }
     }
 }
 
@@ -120,7 +112,6 @@ fn is_theory(view: View) -> bool
     match view {
         View::States => false,
         View::Next(state) => true,
-        View::Before(next) => true,
     }
 }
 

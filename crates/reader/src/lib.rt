@@ -2,6 +2,7 @@
 mod actions;
 mod bits;
 mod formula;
+mod layout;
 mod limits;
 mod nodes;
 mod program;
@@ -10,8 +11,9 @@ mod sheet;
 
 pub use formula::Evaluated;
 pub use formula::View;
+pub use layout::Header;
+pub use layout::HeaderRead;
 pub use limits::ACTION_NODES;
-pub use limits::ACTIONS_AT;
 pub use limits::BRANCH_NODES;
 pub use limits::BYTES;
 pub use limits::DEPTH;
@@ -19,7 +21,6 @@ pub use limits::FACTS;
 pub use limits::REPLIES;
 pub use nodes::ActionNode;
 pub use nodes::EpistemicNode;
-pub use nodes::HeaderRead;
 pub use nodes::ProgramNode;
 pub use nodes::action_node;
 pub use nodes::epistemic_node;

@@ -21,6 +21,3 @@ pub const BRANCH_NODES: usize = 63;
 
 // The levels that a program may have, with an end: enough for all its nodes.
 pub(crate) const LEVELS: usize = 128;
-
-// Where the actions begin, behind the header.
-pub const ACTIONS_AT: usize = 13;

@@ -4,23 +4,24 @@ use crate::bits::field_at;
 use crate::formula::Evaluated;
 use crate::formula::View;
 use crate::formula::evaluate;
+use crate::layout::Header;
+use crate::layout::HeaderRead;
+use crate::limits::ACTION_NODES;
+use crate::limits::BRANCH_NODES;
 use crate::limits::BYTES;
 use crate::limits::DEPTH;
 use crate::limits::EDITION;
 use crate::limits::FACTS;
 use crate::limits::REPLIES;
 use crate::refusal::Refusal;
+use states::States;
 ghost use mathlib.Core.Path.{_≡_};
-ghost use Rattle.reader.specs.Nodes.{header as headerFields, actionHead, epistemicHead, programHead, ofSheet};
-ghost use Rattle.reader.specs.Format.{deepest, mapped, objective};
+ghost use Prim.Native.Nat.{_≤_};
+ghost use lib.ListN.{length};
+ghost use Rattle.format.specs.Format.{deepest, mapped, objective, header as headerFields, epistemicHead, programHead, ofSheet};
+ghost use Rattle.reader.specs.Nodes.{actionHead};
 ghost use Rattle.reader.specs.Answers.{setRead, inTheory, table};
-ghost use Rattle.reader.specs.NodeAnswers.{headerRead, actionNodeRead, epistemicNodeRead, programNodeRead};
-
-// The number of facts and the number of actions.
-pub enum HeaderRead {
-    Counts(usize, usize),
-    Refused(Refusal),
-}
+ghost use Rattle.reader.specs.NodeAnswers.{spaced, headerRead, actionNodeRead, epistemicNodeRead, programNodeRead};
 
 // The first node of an action, a probe with its reply count, and the position after it.
 pub enum ActionNode {
@@ -46,9 +47,9 @@ pub enum ProgramNode {
     Refused(Refusal),
 }
 
-// The header of a sheet, which takes 13 bits.
+// The header of a sheet.
 pub fn header(s: &[u8]) -> HeaderRead
-    ensures { λ r. ⌜ headerRead r ≡ ofSheet headerFields (now (s .entry)) 0 ⌝ }
+    ensures { λ r. ⌜ headerRead r ≡ mapped spaced (ofSheet headerFields (now (s .entry)) 0) ⌝ }
 {
     if BYTES < s.len() {
         return HeaderRead::Refused(Refusal::Length);
@@ -71,7 +72,13 @@ pub fn header(s: &[u8]) -> HeaderRead
     let Field::Value(k, end) = field_at(s, actions_at, 5) else {
         return HeaderRead::Refused(Refusal::Cut);
     };
-    HeaderRead::Counts(n, k)
+    let space = States::all(n);
+    HeaderRead::Read(Header {
+        facts: n,
+        actions: k,
+        space,
+        at: end,
+    })
 }
 
 // The first node of the action at a position.
@@ -117,13 +124,11 @@ pub fn epistemic_node(s: &[u8], at: usize) -> EpistemicNode
     }
 }
 
-// The first node of the program at a position.
-pub fn program_node(s: &[u8], at: usize) -> ProgramNode
-    ensures { λ r. ⌜ programNodeRead r ≡ ofSheet programHead (now (s .entry)) at ⌝ }
+// The first node of the program at a position, where so many action nodes and branch nodes were read before it.
+pub(crate) fn first_node(s: &[u8], at: usize, acts: usize, branches: usize) -> ProgramNode
+    requires { ⌜ length (now s) ≤ 1024 ⌝ }
+    ensures { λ r. ⌜ programNodeRead r ≡ programHead acts branches (now (s .entry)) at ⌝ }
 {
-    if BYTES < s.len() {
-        return ProgramNode::Refused(Refusal::Length);
-    }
     let Field::Value(tag, next) = field_at(s, at, 2) else {
         return ProgramNode::Refused(Refusal::Cut);
     };
@@ -131,15 +136,31 @@ pub fn program_node(s: &[u8], at: usize) -> ProgramNode
         return ProgramNode::End(next);
     }
     if tag == 1 {
+        if ACTION_NODES <= acts {
+            return ProgramNode::Refused(Refusal::Nodes);
+        }
         let Field::Value(a, end) = field_at(s, next, 5) else {
             return ProgramNode::Refused(Refusal::Cut);
         };
         return ProgramNode::Act(a, end);
     }
     if tag == 2 {
+        if BRANCH_NODES <= branches {
+            return ProgramNode::Refused(Refusal::Nodes);
+        }
         return ProgramNode::Branch(next);
     }
     ProgramNode::Refused(Refusal::Loop)
+}
+
+// The first node of the program at a position.
+pub fn program_node(s: &[u8], at: usize) -> ProgramNode
+    ensures { λ r. ⌜ programNodeRead r ≡ ofSheet (programHead 0 0) (now (s .entry)) at ⌝ }
+{
+    if BYTES < s.len() {
+        return ProgramNode::Refused(Refusal::Length);
+    }
+    first_node(s, at, 0, 0)
 }
 
 // The objective formula over n facts at a position: its set in a view, and the position after it.

@@ -7,10 +7,10 @@ use crate::formula::View;
 use crate::formula::Walked;
 use crate::formula::evaluate;
 use crate::formula::read_epistemic;
-use crate::limits::ACTIONS_AT;
+use crate::layout::Header;
+use crate::layout::HeaderRead;
 use crate::limits::DEPTH;
 use crate::limits::LEVELS;
-use crate::nodes::HeaderRead;
 use crate::nodes::header;
 use crate::program::Counted;
 use crate::program::Place;
@@ -20,9 +20,13 @@ use states::States;
 ghost use mathlib.Core.Path.{_≡_};
 ghost use Prim.Native.Nat.{_≤_};
 ghost use lib.ListN.{length};
-ghost use Rattle.reader.specs.Format.{isPadding, reading};
-ghost use Rattle.reader.specs.Answers.{answerOf, withoutValue, endRead};
-ghost use Rattle.reader.specs.Stages.{sizeOf, afterProgram, afterStart, afterActions, afterHeader};
+ghost use Rattle.states.specs.Sets.{setOf};
+ghost use Rattle.format.specs.Syntax.{Sheet};
+ghost use Rattle.format.specs.Truth.{inSpace};
+ghost use Rattle.format.specs.Format.{got, mapped, body, isPadding, faults, decided, reading};
+ghost use Rattle.reader.specs.Answers.{answerOf, withoutValue, endRead, setRead, startSet, ending};
+ghost use Rattle.reader.specs.NodeAnswers.{headerOf};
+ghost use Rattle.reader.specs.Stages.{sizeOf, afterStart};
 
 // The reader's answer.
 pub enum Answer {
@@ -55,25 +59,10 @@ fn size_of(n: usize) -> usize
     256
 }
 
-// Behind the program: the padding, a start state, and the tests of the actions.
-fn after_program(s: &[u8], at: usize, n: usize, k: usize, start: States) -> Walked
+// Behind the start formula: the goal and the program, only where they end.
+fn read_rest(s: &[u8], at: usize, n: usize, k: usize) -> Walked
     requires { ⌜ length (now s) ≤ 1024 ⌝ }
-    ensures { λ r. ⌜ endRead r ≡ afterProgram (now (s .entry)) n k start at ⌝ }
-{
-    if !is_padding(s, at) {
-        return Walked::Refused(Refusal::Padding);
-    }
-    let space = States::all(n);
-    if start.intersect(space).is_empty() {
-        return Walked::Refused(Refusal::NoStart);
-    }
-    test_actions(s, ACTIONS_AT, n, k, space, size_of(n))
-}
-
-// Behind the start formula: the goal and the program.
-fn after_start(s: &[u8], at: usize, n: usize, k: usize, start: States) -> Walked
-    requires { ⌜ length (now s) ≤ 1024 ⌝ }
-    ensures { λ r. ⌜ endRead r ≡ afterStart (now (s .entry)) n k start at ⌝ }
+    ensures { λ r. ⌜ endRead r ≡ mapped ending (afterStart n k (now (s .entry)) at) ⌝ }
 {
     match read_epistemic(s, at, DEPTH, n) {
         Walked::Refused(r) => Walked::Refused(r),
@@ -90,31 +79,44 @@ fn after_start(s: &[u8], at: usize, n: usize, k: usize, start: States) -> Walked
                 LEVELS,
             ) {
                 Counted::Refused(r) => Walked::Refused(r),
-                Counted::To(end) => after_program(s, end.at, n, k, start),
+                Counted::To(end) => Walked::To(end.at),
             }
         }
     }
 }
 
-// Behind the actions: the start formula, and what follows it.
-fn after_actions(s: &[u8], at: usize, n: usize, k: usize) -> Walked
+// The fields behind the header: the states in which the start formula holds, and where the fields end.
+fn read_body(s: &[u8], at: usize, n: usize, k: usize) -> Evaluated
     requires { ⌜ length (now s) ≤ 1024 ⌝ }
-    ensures { λ r. ⌜ endRead r ≡ afterActions (now (s .entry)) n k at ⌝ }
+    ensures { λ r. ⌜ setRead r ≡ mapped startSet (body (record { facts = n; actions = k }) (now (s .entry)) at) ⌝ }
 {
-    match evaluate(s, at, DEPTH, n, View::States) {
-        Evaluated::Refused(r) => Walked::Refused(r),
-        Evaluated::Holds(start, next) => after_start(s, next, n, k, start),
+    match read_actions(s, at, n, k) {
+        Walked::Refused(r) => Evaluated::Refused(r),
+        Walked::To(start_at) => match evaluate(s, start_at, DEPTH, n, View::States) {
+            Evaluated::Refused(r) => Evaluated::Refused(r),
+            Evaluated::Holds(start, next) => match read_rest(s, next, n, k) {
+                Walked::Refused(r) => Evaluated::Refused(r),
+                Walked::To(end) => Evaluated::Holds(start, end),
+            },
+        },
     }
 }
 
-// Behind the header: the actions, and what follows them.
-fn after_header(s: &[u8], n: usize, k: usize) -> Walked
-    requires { ⌜ length (now s) ≤ 1024 ⌝ }
-    ensures { λ r. ⌜ endRead r ≡ afterHeader (now (s .entry)) n k ⌝ }
+// The tests behind the fields: the padding, a start state, and the tests of the actions.
+fn test_body(s: &[u8], h: Header, start: States, end: usize) -> Answer
+    requires { ⌜ (length (now s) ≤ 1024) × (h .facts ≤ 8) × (h .space ≡ setOf (inSpace (h .facts))) ⌝ }
+    ensures { λ r. ⌜ ((sheet : Sheet) → body (headerOf h) (now (s .entry)) (h .at) ≡ got sheet end → start ≡ startSet sheet → answerOf r ≡ withoutValue (decided (faults (now (s .entry)) end sheet) sheet)) ⌝ }
 {
-    match read_actions(s, ACTIONS_AT, n, k) {
-        Walked::Refused(r) => Walked::Refused(r),
-        Walked::To(next) => after_actions(s, next, n, k),
+    if !is_padding(s, end) {
+        return Answer::Refused(Refusal::Padding);
+    }
+    let space = h.space;
+    if start.intersect(space).is_empty() {
+        return Answer::Refused(Refusal::NoStart);
+    }
+    match test_actions(s, h.at, h.facts, h.actions, space, size_of(h.facts)) {
+        Walked::Refused(r) => Answer::Refused(r),
+        Walked::To(next) => Answer::Accepted,
     }
 }
 
@@ -124,11 +126,9 @@ pub fn read(s: &[u8]) -> Answer
 {
     match header(s) {
         HeaderRead::Refused(r) => Answer::Refused(r),
-        HeaderRead::Counts(n, k) => {
-            match after_header(s, n, k) {
-                Walked::Refused(r) => Answer::Refused(r),
-                Walked::To(end) => Answer::Accepted,
-            }
-        }
+        HeaderRead::Read(h) => match read_body(s, h.at, h.facts, h.actions) {
+            Evaluated::Refused(r) => Answer::Refused(r),
+            Evaluated::Holds(start, end) => test_body(s, h, start, end),
+        },
     }
 }

@@ -11,10 +11,10 @@ use Rattle.lists.proofs.ListLaws.{made-length}
 use Rattle.states.specs.declared.States.{States}
 use Rattle.states.specs.Sets.{member, setOf}
 use Rattle.states.proofs.SetLaws.{member-setOf, set-cong}
-use Rattle.reader.specs.Syntax.{Objective, bottom, Action, change, probe, replyCount}
-use Rattle.reader.specs.Truth.{truth, holds, answers}
-use Rattle.reader.specs.Format.{Read, got}
-use Rattle.reader.specs.Nodes.{ActionHead, actionHead, change-head, probe-head, ofSheet}
+use Rattle.format.specs.Syntax.{Objective, bottom, Action, change, probe, replyCount}
+use Rattle.format.specs.Truth.{truth, holds, answers}
+use Rattle.format.specs.Format.{Read, got, ofSheet}
+use Rattle.reader.specs.Nodes.{ActionHead, actionHead, change-head, probe-head}
 use Rattle.reader.specs.Answers.{table}
 use Rattle.reader.specs.NodeAnswers.{actionNodeRead}
 use Rattle.reader.specs.Standing.{ObjectiveAt, RepliesAt, ActionAt, ActionsAt}
@@ -38,11 +38,11 @@ module _ (bytes : List ℕ) (n : ℕ) (p : ℕ) (r : ActionNode) (short : length
       → (f : Objective) × (x ≡ change f) × ObjectiveAt bytes n true f end q
   unfolding actionNodeRead ActionAt
   change-found {end} k (change f) q h =
-      let g : got change-head end ≡ got change-head (p + 1) = sym (ap actionNodeRead k) ∙ headed (h .0) in
-      let b : end ≡ p + 1 = cc in
-      (f, refl, rw b (h .1))
+      let g : got change-head end ≡ got change-head (h .0) = sym (ap actionNodeRead k) ∙ headed (h .1) in
+      let b : end ≡ h .0 = cc in
+      (f, refl, rw b (h .2))
   change-found {end} k (probe fs) q h =
-      let g : got change-head end ≡ got (probe-head (length fs)) (p + 5) = sym (ap actionNodeRead k) ∙ headed (h .0) in
+      let g : got change-head end ≡ got (probe-head (length fs)) (h .0) = sym (ap actionNodeRead k) ∙ headed (h .1) in
       let z : _≡_ {A = ℕ} 0 1 = cc in absurd (omega arith)
 
   -- A probe, behind whose count its replies stand.
@@ -50,19 +50,19 @@ module _ (bytes : List ℕ) (n : ℕ) (p : ℕ) (r : ActionNode) (short : length
       → (fs : List Objective) × (x ≡ probe fs) × (length fs ≡ m) × RepliesAt bytes n fs end q
   unfolding actionNodeRead ActionAt
   probe-found {m} {end} k (change f) q h =
-      let g : got (probe-head m) end ≡ got change-head (p + 1) = sym (ap actionNodeRead k) ∙ headed (h .0) in
+      let g : got (probe-head m) end ≡ got change-head (h .0) = sym (ap actionNodeRead k) ∙ headed (h .1) in
       let z : _≡_ {A = ℕ} 0 1 = cc in absurd (omega arith)
   probe-found {m} {end} k (probe fs) q h =
-      let g : got (probe-head m) end ≡ got (probe-head (length fs)) (p + 5) = sym (ap actionNodeRead k) ∙ headed (h .0) in
-      let b : end ≡ p + 5 = cc in
+      let g : got (probe-head m) end ≡ got (probe-head (length fs)) (h .0) = sym (ap actionNodeRead k) ∙ headed (h .1) in
+      let b : end ≡ h .0 = cc in
       let l : length fs ≡ m = cc in
-      (fs, refl, l, rw b (h .1))
+      (fs, refl, l, rw b (h .2))
 
   -- No refusal.
   pub never-faulty : {x : Refusal} {A : Type 0} → r ≡ ActionNode.Refused x → (a : Action) (q : ℕ) → ActionAt bytes n a p q → A
   unfolding actionNodeRead ActionAt
-  never-faulty k (change f) q h = let g = sym (ap actionNodeRead k) ∙ headed (h .0) in let z : _≡_ {A = ℕ} 0 1 = cc in absurd (omega arith)
-  never-faulty k (probe fs) q h = let g = sym (ap actionNodeRead k) ∙ headed (h .0) in let z : _≡_ {A = ℕ} 0 1 = cc in absurd (omega arith)
+  never-faulty k (change f) q h = let g = sym (ap actionNodeRead k) ∙ headed (h .1) in let z : _≡_ {A = ℕ} 0 1 = cc in absurd (omega arith)
+  never-faulty k (probe fs) q h = let g = sym (ap actionNodeRead k) ∙ headed (h .1) in let z : _≡_ {A = ℕ} 0 1 = cc in absurd (omega arith)
 
 -- The row of a state: the states of a space that may follow it.
 abbrev pub rowOf : States → Objective → ℕ → States
@@ -256,7 +256,7 @@ pub record ActionsLeft (bytes : List ℕ) (n : ℕ) (space : States) (count : �
 
 module _ (bytes : List ℕ) (n : ℕ) (space : States) (count : ℕ) (heads sets : List ℕ) (q : ℕ) (actions : List Action) where
   -- At first all are.
-  pub actions-first : ActionsAt bytes n actions 13 q → length actions ≡ count → ActionsLeft bytes n space count heads heads sets sets 13 q 0 0 actions
+  pub actions-first : {p : ℕ} → ActionsAt bytes n actions p q → length actions ≡ count → ActionsLeft bytes n space count heads heads sets sets p q 0 0 actions
   actions-first h l = record { left = actions; number = omega arith; stand = h; sets-count = omega arith; heads-whole = refl; sets-whole = refl }
 
   module _ (heads′ sets′ : List ℕ) (p k a : ℕ) where

@@ -7,13 +7,12 @@ use mathlib.Core.Bool.{false}
 use native.Mathlib.Omega.{arith}
 use lib.Dec.{eqb}
 use lib.ListN.{length}
-use Rattle.reader.specs.Syntax.{Objective, Epistemic, known, not-known, all-of, any-of}
-use Rattle.reader.specs.Format.{Read, got, fault, objective, epistemicBehind, epistemic}
-use Rattle.reader.specs.Nodes.{EpistemicHead, known-head, not-known-head, all-of-head, any-of-head, epistemicHead, ofSheet}
+use Rattle.format.specs.Syntax.{Objective, Epistemic, known, not-known, all-of, any-of}
+use Rattle.format.specs.Format.{Read, got, fault, objective, EpistemicHead, known-head, not-known-head, all-of-head, any-of-head, epistemicHead, epistemicBehind, epistemic, ofSheet}
 use Rattle.reader.specs.Standing.{ObjectiveAt}
-use Rattle.reader.proofs.FormatLaws.{Finds, finds-give, finds-refuse, finds-if, finds-behind, finds-field}
-use Rattle.reader.proofs.FormulaLaws.{objective-levels}
-use Rattle.reader.proofs.NodeLaws.{sheet-short, known-first, not-known-first, all-of-first, any-of-first}
+use Rattle.format.proofs.FormatLaws.{Finds, finds-give, finds-refuse, finds-behind}
+use Rattle.format.proofs.FormulaLaws.{objective-levels}
+use Rattle.reader.proofs.NodeLaws.{sheet-short}
 use Rattle.reader.proofs.StandingLaws.{epistemic-inside, standing-epistemic}
 use Rattle.routine.specs.declared.conditions.Extent.{Extent}
 use Rattle.routine.specs.Memory.{write, words, cells}
@@ -56,43 +55,41 @@ module _ (bytes : List ℕ) (n left : ℕ) where
   Parts (fault r) f q = ⊥
 
 module _ (bytes : List ℕ) (n : ℕ) where
+  -- A formula behind its first node.
+  module _ (d : ℕ) (l : suc d ≤ 16) (r : ℕ) where
+    atom : (make : Objective → Epistemic) (f : Objective) (q : ℕ) → objective n false d bytes r ≡ got f q → AtomAt bytes n (suc d) make (make f) r q
+    atom make f q h = record { inner = f; is = refl; stands = objective-levels n false d 16 (omega arith) bytes r f q h }
+
+    less : d ≡ suc d - 1
+    less = omega arith
+
+    pair : (make : Epistemic → Epistemic → Epistemic) (f : Epistemic) (i : ℕ) → epistemic n d bytes r ≡ got f i → (g : Epistemic) (q : ℕ) → epistemic n d bytes i ≡ got g q
+        → atoms (make f g) ≡ atoms f + atoms g → PairAt bytes n (suc d) make (make f g) r q
+    pair make f i h g q j many =
+        record {
+          first = f;
+          second = g;
+          middle = i;
+          is = refl;
+          many = many;
+          first-read = subst (λ (x : ℕ). epistemic n x bytes r ≡ got f i) less h;
+          second-read = subst (λ (x : ℕ). epistemic n x bytes i ≡ got g q) less j;
+          some = omega arith;
+        }
+
+    parts-behind : (h : EpistemicHead) → Finds bytes r (λ f q. Parts bytes n (suc d) (got h r) f q) (epistemicBehind (objective n false d) (epistemic n d) h)
+    unfolding epistemicBehind atoms
+    parts-behind known-head = finds-behind bytes r _ (objective n false d) _ (λ f q h. finds-give bytes q _ (known f) (atom known f q h))
+    parts-behind not-known-head = finds-behind bytes r _ (objective n false d) _ (λ f q h. finds-give bytes q _ (not-known f) (atom not-known f q h))
+    parts-behind all-of-head = finds-behind bytes r _ (epistemic n d) _ (λ f i h. finds-behind bytes i _ (epistemic n d) _ (λ g q j. finds-give bytes q _ (all-of f g) (pair all-of f i h g q j refl)))
+    parts-behind any-of-head = finds-behind bytes r _ (epistemic n d) _ (λ f i h. finds-behind bytes i _ (epistemic n d) _ (λ g q j. finds-give bytes q _ (any-of f g) (pair any-of f i h g q j refl)))
+
   parts-found : (left : ℕ) → left ≤ 16 → (at : ℕ) → Finds bytes at (λ f q. Parts bytes n left (epistemicHead bytes at) f q) (epistemic n left)
-  unfolding epistemic epistemicBehind atoms
+  unfolding epistemic
   parts-found zero l at = finds-refuse bytes at _ 8
   parts-found (suc d) l at =
-      finds-field bytes at Q 2 (at + 2) refl _ (λ tag e low.
-      finds-if bytes (at + 2) Q (eqb tag 0) _ _
-      (λ t. finds-behind bytes (at + 2) Q (objective n false d) _ (λ f q h. finds-give bytes q Q (known f) (rw (known-first bytes at e t) (atom known f q h))))
-      (λ t. finds-if bytes (at + 2) Q (eqb tag 1) _ _
-      (λ u. finds-behind bytes (at + 2) Q (objective n false d) _ (λ f q h. finds-give bytes q Q (not-known f) (rw (not-known-first bytes at e t u) (atom not-known f q h))))
-      (λ u. finds-if bytes (at + 2) Q (eqb tag 2) _ _
-      (λ v. finds-behind bytes (at + 2) Q (epistemic n d) _ (λ f r h. finds-behind bytes r Q (epistemic n d) _ (λ g q i.
-      finds-give bytes q Q (all-of f g) (rw (all-of-first bytes at e t u v) (pair all-of f r h g q i refl)))))
-      (λ v. finds-behind bytes (at + 2) Q (epistemic n d) _ (λ f r h. finds-behind bytes r Q (epistemic n d) _ (λ g q i.
-      finds-give bytes q Q (any-of f g) (rw (any-of-first bytes at e t u v) (pair any-of f r h g q i refl))))))))
-    where
-      Q : Epistemic → ℕ → Type 0
-      Q f q = Parts bytes n (suc d) (epistemicHead bytes at) f q
-
-      atom : (make : Objective → Epistemic) (f : Objective) (q : ℕ) → objective n false d bytes (at + 2) ≡ got f q → AtomAt bytes n (suc d) make (make f) (at + 2) q
-      atom make f q h = record { inner = f; is = refl; stands = objective-levels n false d 16 (omega arith) bytes (at + 2) f q h }
-
-      less : d ≡ suc d - 1
-      less = omega arith
-
-      pair : (make : Epistemic → Epistemic → Epistemic) (f : Epistemic) (r : ℕ) → epistemic n d bytes (at + 2) ≡ got f r → (g : Epistemic) (q : ℕ) → epistemic n d bytes r ≡ got g q
-          → atoms (make f g) ≡ atoms f + atoms g → PairAt bytes n (suc d) make (make f g) (at + 2) q
-      pair make f r h g q i many =
-          record {
-            first = f;
-            second = g;
-            middle = r;
-            is = refl;
-            many = many;
-            first-read = subst (λ (j : ℕ). epistemic n j bytes (at + 2) ≡ got f r) less h;
-            second-read = subst (λ (j : ℕ). epistemic n j bytes r ≡ got g q) less i;
-            some = omega arith;
-          }
+      finds-behind bytes at _ epistemicHead _ (λ h r e.
+      subst (λ (x : Read EpistemicHead). Finds bytes r (λ f q. Parts bytes n (suc d) x f q) (epistemicBehind (objective n false d) (epistemic n d) h)) (sym e) (parts-behind d l r h))
 
   -- The parts of a formula that is read, by what `epistemic_node` answers.
   pub formula-parts : (left at : ℕ) {h : Read EpistemicHead} → length bytes ≤ 1024 → left ≤ 16 → h ≡ ofSheet epistemicHead bytes at

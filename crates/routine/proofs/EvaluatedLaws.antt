@@ -6,10 +6,9 @@ use native.Mathlib.Omega.{arith}
 use lib.ListN.{length}
 use Rattle.states.specs.declared.States.{States}
 use Rattle.states.specs.Sets.{setOf}
-use Rattle.reader.specs.Syntax.{Objective}
-use Rattle.reader.specs.Truth.{holds}
-use Rattle.reader.specs.Format.{got, deepest, mapped, objective}
-use Rattle.reader.specs.Nodes.{ofSheet}
+use Rattle.format.specs.Syntax.{Objective}
+use Rattle.format.specs.Truth.{holds}
+use Rattle.format.specs.Format.{got, deepest, mapped, objective, ofSheet}
 use Rattle.reader.specs.Answers.{setRead, inTheory, table}
 use Rattle.reader.specs.Standing.{ObjectiveAt}
 use Rattle.reader.specs.declared.refusal.Refusal.{Refusal}

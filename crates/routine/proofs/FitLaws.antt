@@ -11,11 +11,11 @@ use Rattle.lists.proofs.ListLaws.{flat-mem}
 use Rattle.states.specs.declared.States.{States}
 use Rattle.states.specs.Sets.{setOf}
 use Rattle.states.proofs.SetLaws.{Fitting, fitting-setOf}
-use Rattle.reader.specs.Syntax.{Epistemic, known, not-known, all-of, any-of, Program, end, act, branch, Action, change, probe, replyCount, Sheet}
-use Rattle.reader.specs.Truth.{isState, truth, holds, answers}
-use Rattle.reader.specs.Format.{Answer, accepted, refused, reading}
-use Rattle.reader.proofs.FormatLaws.{NumbersBelow}
-use Rattle.reader.proofs.SheetLaws.{FewReplies, accepted-shape}
+use Rattle.format.specs.Syntax.{Epistemic, known, not-known, all-of, any-of, Program, end, act, branch, Action, change, probe, replyCount, Sheet}
+use Rattle.format.specs.Truth.{isState, truth, holds, answers}
+use Rattle.format.specs.Format.{Answer, accepted, refused, reading}
+use Rattle.format.proofs.FormatLaws.{NumbersBelow}
+use Rattle.format.proofs.SheetLaws.{FewReplies, accepted-shape}
 use Rattle.routine.specs.declared.memory.Node.{Node}
 use Rattle.routine.specs.Memory.{write, words, cells, Small}
 use Rattle.routine.specs.Tables.{rows, replyTables, actionSets, headCells, atoms, atomSets, tests, size, programAtoms, programSets, programNodes, sheetActionSets, sheetSets, sheetNodes, sheetHeads, sheetStart, setWords, nodeCells, prepared}

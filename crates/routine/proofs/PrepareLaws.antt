@@ -10,19 +10,19 @@ use Rattle.lists.proofs.ListLaws.{made-same}
 use Rattle.states.specs.declared.States.{States}
 use Rattle.states.specs.Sets.{member, setOf}
 use Rattle.states.proofs.SetLaws.{member-setOf, set-cong}
-use Rattle.reader.specs.Syntax.{Action, change, probe, replyCount, Sheet}
-use Rattle.reader.specs.Truth.{isState, truth, holds}
-use Rattle.reader.specs.Format.{Answer, accepted, refused, Read, got, fault, epistemic, reading}
-use Rattle.reader.specs.Nodes.{Header, header, ofSheet}
+use Rattle.format.specs.Syntax.{Action, change, probe, replyCount, Sheet}
+use Rattle.format.specs.Truth.{isState, truth, holds, inSpace}
+use Rattle.format.specs.Format.{Answer, accepted, refused, Read, got, fault, epistemic, reading, mapped, Header, header, ofSheet}
 use Rattle.reader.specs.Answers.{numberOf, withoutValue, inTheory, table}
 use Rattle.reader.proofs.AnswerLaws.{was-accepted, was-refused}
-use Rattle.reader.specs.NodeAnswers.{headerRead}
+use Rattle.reader.specs.NodeAnswers.{spaced, headerOf, headerRead}
 use Rattle.reader.specs.Standing.{Standing, ObjectiveAt, ActionsAt, ProgramAt}
 use Rattle.reader.specs.declared.refusal.Refusal.{Refusal}
-use Rattle.reader.specs.declared.nodes.HeaderRead.{HeaderRead}
+use Rattle.reader.specs.declared.layout.Header.{Header as HeaderValue}
+use Rattle.reader.specs.declared.layout.HeaderRead.{HeaderRead}
 use Rattle.reader.specs.declared.formula.View.{View}
 use Rattle.reader.proofs.NodeLaws.{sheet-short}
-use Rattle.reader.proofs.SheetLaws.{accepted-shape}
+use Rattle.format.proofs.SheetLaws.{accepted-shape}
 use Rattle.reader.proofs.StandingLaws.{accepted-standing}
 use Rattle.routine.specs.declared.memory.Node.{Node}
 use Rattle.routine.specs.declared.actions.Laid.{Laid}
@@ -61,11 +61,6 @@ module _ (p q : ℕ → Bool) (same : (s : ℕ) → s < 256 → p s ≡ q s) whe
       ap₂ (λ (us vs : List States). k ∷ (k + length us) ∷ replyCount a ∷ headCells p (k + length vs) later) (rows-same a) (sets-same a)
       ∙ ap (λ (xs : List ℕ). k ∷ (k + length (rows q a)) ∷ replyCount a ∷ xs) (heads-same (k + length (actionSets q a)) later)
 
--- The header that was read.
-abbrev value : Read Header → Header
-value (got h p) = h
-value (fault r) = record { facts = 0; actions = 0 }
-
 -- A memory or an answer after an accepted sheet.
 module _ (bytes : List ℕ) (sheet : Sheet) (read : reading bytes ≡ accepted sheet) where
   pub prepared-accepted : (has : Sheet → List ℕ) (memory after : List ℕ) → after ≡ write memory 0 (has sheet) → after ≡ prepared has (reading bytes) memory
@@ -80,30 +75,62 @@ module _ (bytes : List ℕ) (sheet : Sheet) (read : reading bytes ≡ accepted s
   stands = accepted-standing bytes sheet read
 
   -- The header is read.
-  header-counts : ofSheet header bytes 0 ≡ got (record { facts = sheet .facts; actions = length (sheet .actions) }) 13
-  header-counts = sym (sheet-short header bytes 0 (stands .short) (stands .header-read))
+  abbrev sheetHeader : Header
+  sheetHeader = record { facts = sheet .facts; actions = length (sheet .actions) }
+
+  header-counts : mapped spaced (ofSheet header bytes 0) ≡ got (sheetHeader, setOf (inSpace (sheet .facts))) (stands .actions-at)
+  unfolding mapped spaced
+  header-counts = ap (mapped spaced) (sym (sheet-short header bytes 0 (stands .short) (stands .header-read)))
 
   -- What the code found of it.
-  pub header-refused : {A : Type 0} (r : HeaderRead) (x : Refusal) → headerRead r ≡ ofSheet header bytes 0 → r ≡ HeaderRead.Refused x → A
+  pub header-refused : {A : Type 0} (r : HeaderRead) (x : Refusal) → headerRead r ≡ mapped spaced (ofSheet header bytes 0) → r ≡ HeaderRead.Refused x → A
   unfolding headerRead
   header-refused r x e told =
-      let f : _≡_ {A = Read Header} (fault (numberOf x)) (got (record { facts = sheet .facts; actions = length (sheet .actions) }) 13) = sym (ap headerRead told) ∙ e ∙ header-counts in
+      let f : _≡_ {A = Read (Header × States)} (fault (numberOf x)) (got (sheetHeader, setOf (inSpace (sheet .facts))) (stands .actions-at)) = sym (ap headerRead told) ∙ e ∙ header-counts in
       let z : _≡_ {A = ℕ} 0 1 = cc in absurd (omega arith)
 
-  pub header-found : (r : HeaderRead) (n count : ℕ) → headerRead r ≡ ofSheet header bytes 0 → r ≡ HeaderRead.Counts n count → (n ≡ sheet .facts) × (count ≡ length (sheet .actions))
-  unfolding headerRead
-  header-found r n count e told =
-      let f : _≡_ {A = Read Header} (got (record { facts = n; actions = count }) 13) (got (record { facts = sheet .facts; actions = length (sheet .actions) }) 13) = sym (ap headerRead told) ∙ e ∙ header-counts in
-      (ap (λ (x : Read Header). value x .facts) f, ap (λ (x : Read Header). value x .actions) f)
+  pub record HeaderIs (h : HeaderValue) : Type 0 where
+    pub facts-are : h .facts ≡ sheet .facts
+    pub count-is : h .actions ≡ length (sheet .actions)
+    pub space-is : h .space ≡ setOf (inSpace (sheet .facts))
+    pub at-is : h .at ≡ stands .actions-at
+
+  pub header-found : (r : HeaderRead) (h : HeaderValue) → headerRead r ≡ mapped spaced (ofSheet header bytes 0) → r ≡ HeaderRead.Read h → HeaderIs h
+  unfolding headerRead headerOf
+  header-found r h e told =
+      let f : _≡_ {A = Read (Header × States)} (got (headerOf h, h .space) (h .at)) (got (sheetHeader, setOf (inSpace (sheet .facts))) (stands .actions-at)) = sym (ap headerRead told) ∙ e ∙ header-counts in
+      let both : _≡_ {A = Header × States} (headerOf h, h .space) (sheetHeader, setOf (inSpace (sheet .facts))) = cc in
+      let at : h .at ≡ stands .actions-at = cc in
+      record {
+        facts-are = ap (λ (x : Header × States). x .0 .facts) both;
+        count-is = ap (λ (x : Header × States). x .0 .actions) both;
+        space-is = ap (λ (x : Header × States). x .1) both;
+        at-is = at;
+      }
 
   room : Room sheet
   room = accepted-room bytes sheet read
 
-  -- Numbers of facts and of actions that were read, and the space of states.
-  module _ (n count : ℕ) (space : States) (facts-are : n ≡ sheet .facts) (count-is : count ≡ length (sheet .actions)) (space-is : space ≡ setOf (λ s. ltb s (2 ^ n))) where
+  -- A header that was read.
+  module _ (h : HeaderValue) (found : HeaderIs h) where
+    abbrev n : ℕ
+    n = h .facts
+
+    abbrev count : ℕ
+    count = h .actions
+
+    abbrev space : States
+    space = h .space
+
+    abbrev facts-are : n ≡ sheet .facts
+    facts-are = found .facts-are
+
+    abbrev count-is : count ≡ length (sheet .actions)
+    count-is = found .count-is
+
     space-same : (s : ℕ) → s < 256 → member space s ≡ isState sheet s
     unfolding isState
-    space-same s l = ap (λ (u : States). member u s) space-is ∙ member-setOf (λ t. ltb t (2 ^ n)) s l ∙ ap (λ (m : ℕ). ltb s (2 ^ m)) facts-are
+    space-same s l = ap (λ (u : States). member u s) (found .space-is) ∙ member-setOf (inSpace (sheet .facts)) s l
 
     sets-are : flatMap (actionSets (member space)) (sheet .actions) ≡ sheetActionSets sheet
     unfolding sheetActionSets
@@ -113,10 +140,12 @@ module _ (bytes : List ℕ) (sheet : Sheet) (read : reading bytes ≡ accepted s
     unfolding sheetHeads
     heads-are = heads-same (member space) (isState sheet) space-same 0 (sheet .actions)
 
-    actions-stand : ActionsAt bytes n (sheet .actions) 13 (stands .start-at)
-    actions-stand = subst (λ (m : ℕ). ActionsAt bytes m (sheet .actions) 13 (stands .start-at)) (sym facts-are) (stands .actions-stand)
+    actions-stand : ActionsAt bytes n (sheet .actions) (h .at) (stands .start-at)
+    actions-stand =
+        subst (λ (m : ℕ). ActionsAt bytes m (sheet .actions) (h .at) (stands .start-at)) (sym facts-are)
+        (subst (λ (p : ℕ). ActionsAt bytes (sheet .facts) (sheet .actions) p (stands .start-at)) (sym (found .at-is)) (stands .actions-stand))
 
-    pub actions-room : ActionsRoom bytes n space count
+    pub actions-room : ActionsRoom bytes n space (h .at) count
     actions-room = record {
       actions = sheet .actions;
       next = stands .start-at;
@@ -127,7 +156,7 @@ module _ (bytes : List ℕ) (sheet : Sheet) (read : reading bytes ≡ accepted s
     }
 
     -- The actions are written.
-    module _ (heads heads′ sets sets₁ : List ℕ) (laid : Laid) (actions-fill : ActionsFill bytes n space count heads heads′ sets sets₁ laid) where
+    module _ (heads heads′ sets sets₁ : List ℕ) (laid : Laid) (actions-fill : ActionsFill bytes n space (h .at) count heads heads′ sets sets₁ laid) where
       written : (laid ≡ record { at = stands .start-at; set = length (flatMap (actionSets (member space)) (sheet .actions)) }) × (heads′ ≡ write heads 0 (headCells (member space) 0 (sheet .actions)))
           × (sets₁ ≡ write sets 0 (flatMap words (flatMap (actionSets (member space)) (sheet .actions))))
       written = actions-fill (sheet .actions) (stands .start-at) actions-stand (sym count-is)

@@ -4,15 +4,14 @@ use Prim.Native.Nat.{ℕ, suc, _+_, _-_, _*_, _≤_, _<_}
 use mathlib.Core.Path.{_≡_, refl, sym, ap, ap₂, subst, _∙_}
 use mathlib.Core.List.{List, [], _∷_, _++_, flatMap, append-assoc}
 use native.Mathlib.Omega.{arith}
-use lib.Dec.{eqb}
+use lib.Dec.{ltb, eqb}
 use lib.ListN.{length, length-append}
-use Rattle.reader.specs.Syntax.{Epistemic, Program, end, act, branch}
-use Rattle.reader.specs.Format.{Read, got, fault, field}
-use Rattle.reader.specs.Nodes.{ProgramHead, end-head, act-head, branch-head, programHead, ofSheet}
+use Rattle.format.specs.Syntax.{Epistemic, Program, end, act, branch}
+use Rattle.format.specs.Format.{Read, got, fault, field, ProgramHead, end-head, act-head, branch-head, programHead, ofSheet}
 use Rattle.reader.specs.Standing.{BranchAt, EpistemicAt, EpistemicRead, ProgramAt}
-use Rattle.reader.proofs.FormatLaws.{Gives, gives-give, gives-refuse, gives-if, gives-behind, gives-any, field-below}
+use Rattle.format.proofs.FormatLaws.{Gives, gives-give, gives-refuse, gives-if, gives-check, gives-behind, gives-any, field-below}
 use Rattle.reader.proofs.NodeLaws.{sheet-short}
-use Rattle.reader.proofs.StandingLaws.{epistemic-inside, program-inside}
+use Rattle.reader.proofs.StandingLaws.{epistemic-inside, program-head-inside, program-inside}
 use Rattle.routine.specs.declared.memory.Node.{Node}
 use Rattle.routine.specs.declared.conditions.Extent.{Extent}
 use Rattle.routine.specs.declared.program.Filled.{Filled}
@@ -28,13 +27,13 @@ Numbered end-head = Unit {0}
 Numbered (act-head a) = a < 32
 Numbered branch-head = Unit {0}
 
-head-numbered : Gives Numbered programHead
+head-numbered : Gives Numbered (programHead 0 0)
 unfolding programHead
 head-numbered =
     gives-any Numbered (field 2) _ (λ tag.
     gives-if Numbered (eqb tag 0) _ _ (gives-give Numbered end-head tt)
-    (gives-if Numbered (eqb tag 1) _ _ (gives-behind (λ a. a < 32) Numbered (field 5) _ (field-below 5) (λ a l. gives-give Numbered (act-head a) l))
-    (gives-if Numbered (eqb tag 2) _ _ (gives-give Numbered branch-head tt) (gives-refuse Numbered 10))))
+    (gives-if Numbered (eqb tag 1) _ _ (gives-check Numbered (ltb 0 64) 11 _ (λ t. gives-behind (λ a. a < 32) Numbered (field 5) _ (field-below 5) (λ a l. gives-give Numbered (act-head a) l)))
+    (gives-if Numbered (eqb tag 2) _ _ (gives-check Numbered (ltb 0 63) 11 _ (λ t. gives-give Numbered branch-head tt)) (gives-refuse Numbered 10))))
 
 module _ (bytes : List ℕ) (n at : ℕ) where
   -- A program of an action node, behind which the rest stands from p to q.
@@ -66,25 +65,26 @@ module _ (bytes : List ℕ) (n at : ℕ) where
   Parts (got branch-head p) x q = ForkAt x p q
   Parts (fault r) x q = ⊥
 
-  parts-found : (x : Program) (q : ℕ) → ProgramAt bytes n x at q → Parts (programHead bytes at) x q
+  parts-found : (x : Program) (q : ℕ) → ProgramAt bytes n x at q → Parts (programHead 0 0 bytes at) x q
   unfolding ProgramAt size programAtoms
-  parts-found end q s = rw (s .0) (refl, s .1)
+  parts-found end q s = rw s (refl, refl)
   parts-found (act a rest) q s =
-      rw (s .0) (record {
+      let h = program-head-inside bytes at .found (act-head a) (s .0) (s .1) in
+      rw (s .1) (record {
         rest = rest;
         is = refl;
         many = refl;
         sets-many = refl;
-        stands = s .1;
-        before = omega arith;
-        small = head-numbered bytes at (act-head a) (at + 7) (s .0);
+        stands = s .2;
+        before = h .0;
+        small = head-numbered bytes at (act-head a) (s .0) (s .1);
       })
   parts-found (branch f y z rest) q s =
-      rw (s .0) (record { condition = f; yes = y; no = z; rest = rest; is = refl; many = refl; sets-many = refl; parts = s .1; before = omega arith })
+      rw (s .1) (record { condition = f; yes = y; no = z; rest = rest; is = refl; many = refl; sets-many = refl; parts = s .2; before = program-head-inside bytes at .found branch-head (s .0) (s .1) .0 })
 
   -- The parts of a program that stands, by what `program_node` answers.
-  pub program-parts : {h : Read ProgramHead} → length bytes ≤ 1024 → h ≡ ofSheet programHead bytes at → (x : Program) (q : ℕ) → ProgramAt bytes n x at q → Parts h x q
-  program-parts short e x q s = subst (λ r. Parts r x q) (sheet-short programHead bytes at short refl ∙ sym e) (parts-found x q s)
+  pub program-parts : {h : Read ProgramHead} → length bytes ≤ 1024 → h ≡ ofSheet (programHead 0 0) bytes at → (x : Program) (q : ℕ) → ProgramAt bytes n x at q → Parts h x q
+  program-parts short e x q s = subst (λ r. Parts r x q) (sheet-short (programHead 0 0) bytes at short refl ∙ sym e) (parts-found x q s)
 
 -- The end has none.
 pub laid-end : (base k : ℕ) {x : Program} (p q : ℕ) (nodes sets : List ℕ) → (x ≡ end) × (p ≡ q) → NodesWritten base k x q nodes nodes sets sets (record { at = p; node = base; set = k })

@@ -6,11 +6,11 @@ use mathlib.Core.Bool.{Bool, true, false, _&&_}
 use native.Mathlib.Omega.{arith}
 use lib.ListN.{length, length-append}
 use Rattle.lists.proofs.ListLaws.{made-length}
-use Rattle.reader.specs.Syntax.{Action, change, probe, replyCount, Sheet}
+use Rattle.format.specs.Syntax.{Action, change, probe, replyCount, Sheet}
 use Rattle.states.specs.Sets.{setOf}
-use Rattle.reader.specs.Truth.{isState, truth, answers}
-use Rattle.reader.specs.Format.{accepted, reading}
-use Rattle.reader.proofs.SheetLaws.{FewReplies, accepted-shape}
+use Rattle.format.specs.Truth.{isState, truth, answers}
+use Rattle.format.specs.Format.{accepted, reading}
+use Rattle.format.proofs.SheetLaws.{FewReplies, accepted-shape}
 use Rattle.reader.proofs.StandingLaws.{accepted-standing}
 use Rattle.routine.proofs.SizeLaws.{tests-length, atom-sets-length, nodes-length, program-sets-length, size-nodes, atoms-bits, program-bits}
 use Rattle.routine.specs.declared.memory.Node.{Node}

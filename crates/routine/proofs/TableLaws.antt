@@ -10,12 +10,12 @@ use Rattle.lists.specs.Lists.{if_then_else_}
 use Rattle.lists.proofs.ListLaws.{append-past, made-get}
 use Rattle.states.specs.declared.States.{States}
 use Rattle.states.specs.Sets.{setOf}
-use Rattle.reader.specs.Syntax.{Action, probe, replyCount, Sheet, actionOf}
-use Rattle.reader.specs.Truth.{isState, answers}
-use Rattle.reader.specs.Format.{Answer, accepted, refused, reading}
+use Rattle.format.specs.Syntax.{Action, probe, replyCount, Sheet, actionOf}
+use Rattle.format.specs.Truth.{isState, answers}
+use Rattle.format.specs.Format.{Answer, accepted, refused, reading}
 use Rattle.reader.specs.Answers.{numberOf}
 use Rattle.reader.specs.declared.refusal.Refusal.{Refusal}
-use Rattle.reader.proofs.SheetLaws.{accepted-shape}
+use Rattle.format.proofs.SheetLaws.{accepted-shape}
 use Rattle.routine.specs.declared.memory.Node.{Node}
 use Rattle.routine.specs.declared.memory.Head.{Head}
 use Rattle.routine.specs.declared.sheet.Prepared.{Prepared}

@@ -6,9 +6,9 @@ use mathlib.Core.Path.{_≡_}
 use lib.ListN.{length}
 use Rattle.states.specs.declared.States.{States}
 use Rattle.states.specs.Sets.{member, setOf}
-use Rattle.reader.specs.Syntax.{Objective, Epistemic, Program, Action, change, Sheet}
-use Rattle.reader.specs.Truth.{truth, holds}
-use Rattle.reader.specs.Format.{got, accepted, deepest, epistemic, reading}
+use Rattle.format.specs.Syntax.{Objective, Epistemic, Program, Action, change, Sheet}
+use Rattle.format.specs.Truth.{truth, holds}
+use Rattle.format.specs.Format.{got, accepted, deepest, epistemic, reading}
 use Rattle.reader.specs.Standing.{ObjectiveAt, RepliesAt, ActionAt, ActionsAt, ProgramAt}
 use Rattle.routine.specs.declared.memory.Node.{Node}
 use Rattle.routine.specs.declared.actions.Laid.{Laid}
@@ -79,19 +79,19 @@ module _ (bytes : List ℕ) (n : ℕ) where
     abbrev pub ActionFills : (at a k : ℕ) (heads heads′ sets sets′ : List ℕ) (r : Laid) → Type 0
     ActionFills at a k heads heads′ sets sets′ r = (x : Action) (q : ℕ) → ActionAt bytes n x at q → ActionWritten space a k heads heads′ sets sets′ r x q
 
-    -- So many actions stand behind the header, at most 31, and their sets have room.
-    pub record ActionsRoom (count : ℕ) : Type 0 where
+    -- So many actions stand at a position, at most 31, and their sets have room.
+    pub record ActionsRoom (at count : ℕ) : Type 0 where
       pub actions : List Action
       pub next : ℕ
-      pub stand : ActionsAt bytes n actions 13 next
+      pub stand : ActionsAt bytes n actions at next
       pub all : length actions ≡ count
       pub few : count ≤ headMost
       pub room : length (flatMap (actionSets (member space)) actions) ≤ setMost
 
     -- Their heads and their sets are written.
-    abbrev pub ActionsFill : (count : ℕ) (heads heads′ sets sets′ : List ℕ) (r : Laid) → Type 0
-    ActionsFill count heads heads′ sets sets′ r =
-        (actions : List Action) (q : ℕ) → ActionsAt bytes n actions 13 q → length actions ≡ count
+    abbrev pub ActionsFill : (at count : ℕ) (heads heads′ sets sets′ : List ℕ) (r : Laid) → Type 0
+    ActionsFill at count heads heads′ sets sets′ r =
+        (actions : List Action) (q : ℕ) → ActionsAt bytes n actions at q → length actions ≡ count
         → (r ≡ record { at = q; set = length (flatMap (actionSets (member space)) actions) })
         × (heads′ ≡ write heads 0 (headCells (member space) 0 actions))
         × (sets′ ≡ write sets 0 (flatMap words (flatMap (actionSets (member space)) actions)))

@@ -8,9 +8,9 @@ use lib.ListN.{length, take}
 use Rattle.lists.specs.Lists.{upFrom, below}
 use Rattle.states.specs.declared.States.{States}
 use Rattle.states.specs.Sets.{setOf}
-use Rattle.reader.specs.Syntax.{top, fact, negation, Epistemic, known, not-known, all-of, any-of, Program, end, act, branch, Action, change, probe, replyCount, Sheet}
-use Rattle.reader.specs.Truth.{isState, holds, truth, answers}
-use Rattle.reader.specs.Format.{Answer, accepted, refused}
+use Rattle.format.specs.Syntax.{top, fact, negation, Epistemic, known, not-known, all-of, any-of, Program, end, act, branch, Action, change, probe, replyCount, Sheet}
+use Rattle.format.specs.Truth.{isState, holds, truth, answers}
+use Rattle.format.specs.Format.{Answer, accepted, refused}
 use Rattle.reader.specs.Answers.{numberOf}
 use Rattle.routine.specs.declared.memory.Node.{Node}
 use Rattle.routine.specs.declared.sheet.Prepared.{Prepared}

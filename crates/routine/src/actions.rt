@@ -3,7 +3,6 @@ use crate::limits::HEAD_CELLS;
 use crate::limits::SET_WORDS;
 use crate::memory::put_head;
 use crate::memory::put_set;
-use reader::ACTIONS_AT;
 use reader::ActionNode;
 use reader::Evaluated;
 use reader::View;
@@ -122,19 +121,20 @@ fn fill_action(
     }
 }
 
-// Writes the sets and the heads of a sheet's actions.
+// Writes the sets and the heads of the actions at a position.
 pub(crate) fn fill_actions(
     s: &[u8],
+    at: usize,
     n: usize,
     space: States,
     count: usize,
     heads: &mut [u16; HEAD_CELLS],
     sets: &mut [u64; SET_WORDS],
 ) -> Laid
-    requires { ⌜ (length (now s) ≤ 1024) × ActionsRoom (now s) n space count ⌝ }
-    ensures { λ r. ⌜ ActionsFill (now (s .entry)) n space count (now (heads .entry)) (now (heads .exit)) (now (sets .entry)) (now (sets .exit)) r ⌝ }
+    requires { ⌜ (length (now s) ≤ 1024) × ActionsRoom (now s) n space at count ⌝ }
+    ensures { λ r. ⌜ ActionsFill (now (s .entry)) n space at count (now (heads .entry)) (now (heads .exit)) (now (sets .entry)) (now (sets .exit)) r ⌝ }
 {
-    let mut p = ACTIONS_AT;
+    let mut p = at;
     let mut k = 0;
     for a in 0..count {
         let laid = fill_action(s, p, n, space, a, k, heads, sets);

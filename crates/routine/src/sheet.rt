@@ -19,7 +19,7 @@ use reader::objective_states;
 use reader::read;
 use states::States;
 ghost use mathlib.Core.Path.{_≡_};
-ghost use Rattle.reader.specs.Format.{reading};
+ghost use Rattle.format.specs.Format.{reading};
 ghost use Rattle.routine.specs.Tables.{preparedOf, startOf, prepared as preparedBy, sheetHeads, nodeCells, setWords};
 ghost use Rattle.routine.specs.Filling.{Acceptable};
 
@@ -39,11 +39,12 @@ fn fill(
     requires { ⌜ Acceptable (now s) ⌝ }
     ensures { λ r. ⌜ (preparedOf r ≡ startOf (reading (now (s .entry)))) × (now (heads .exit) ≡ preparedBy sheetHeads (reading (now (s .entry))) (now (heads .entry))) × (now (nodes .exit) ≡ preparedBy nodeCells (reading (now (s .entry))) (now (nodes .entry))) × (now (sets .exit) ≡ preparedBy setWords (reading (now (s .entry))) (now (sets .entry))) ⌝ }
 {
-    let HeaderRead::Counts(n, count) = header(s) else {
+    let HeaderRead::Read(h) = header(s) else {
         return Prepared::Refused(Refusal::Cut);
     };
-    let space = States::all(n);
-    let actions = fill_actions(s, n, space, count, heads, sets);
+    let n = h.facts;
+    let space = h.space;
+    let actions = fill_actions(s, h.at, n, space, h.actions, heads, sets);
     let Evaluated::Holds(start, goal_at) = objective_states(s, actions.at, n, View::States) else {
         return Prepared::Refused(Refusal::Cut);
     };

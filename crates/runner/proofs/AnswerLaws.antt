@@ -3,7 +3,7 @@ use Prim.Native.Nat.{ℕ}
 use mathlib.Core.Path.{_≡_, refl, sym, ap, _∙_}
 use lib.Dec.{eqb}
 use Rattle.lists.specs.Lists.{if_then_else_}
-use Rattle.reader.specs.Format.{Answer, accepted, refused}
+use Rattle.format.specs.Format.{Answer, accepted, refused}
 use Rattle.semantics.specs.Replies.{Told as Telling, to-do, at-end}
 use Rattle.runner.specs.declared.answer.Rejection.{Rejection}
 use Rattle.runner.specs.declared.answer.Told.{Told}

@@ -10,8 +10,8 @@ use lib.Seq.{drop-cons, set-split, length-take-le}
 use borrow.Author.Tests.{eqb-true, leb-true}
 use Rattle.lists.specs.Lists.{if_then_else_, every}
 use Rattle.lists.proofs.ListLaws.{both-true}
-use Rattle.reader.specs.Syntax.{replyCount, Sheet, actionOf}
-use Rattle.reader.specs.Format.{Answer, accepted, refused, reading}
+use Rattle.format.specs.Syntax.{replyCount, Sheet, actionOf}
+use Rattle.format.specs.Format.{Answer, accepted, refused, reading}
 use Rattle.reader.specs.Answers.{withoutValue}
 use Rattle.reader.proofs.AnswerLaws.{was-accepted}
 use Rattle.semantics.specs.Runs.{History, entry}

@@ -7,9 +7,9 @@ use lib.ListN.{length, replicate, take, drop}
 use lib.Seq.{take-append-seam, drop-append-seam}
 use borrow.Author.Tests.{le-leb}
 use Rattle.lists.specs.Lists.{if_then_else_, every}
-use Rattle.reader.specs.Syntax.{Sheet}
-use Rattle.reader.specs.Format.{Answer, accepted, refused, reading}
-use Rattle.reader.proofs.SheetLaws.{accepted-length}
+use Rattle.format.specs.Syntax.{Sheet}
+use Rattle.format.specs.Format.{Answer, accepted, refused, reading}
+use Rattle.format.proofs.SheetLaws.{accepted-length}
 use Rattle.semantics.specs.Replies.{told, reported, RepliesOfRun}
 use Rattle.semantics.proofs.ReplyLaws.{run-of}
 use Rattle.semantics.proofs.AcceptedLaws.{replies-most}

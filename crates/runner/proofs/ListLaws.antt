@@ -6,8 +6,8 @@ use mathlib.Core.Logic.{_↔_, ∥∥₁-prop, ∥∥₁-elim, ∥∥₁-map}
 use mathlib.Core.List.{List, [], _∷_, _++_, map, append-nil, append-assoc, head-eq-of-cons-eq, tail-eq-of-cons-eq}
 use mathlib.Core.Bool.{Bool, true, false}
 use native.Mathlib.Omega.{arith}
-use Rattle.reader.specs.Syntax.{Sheet}
-use Rattle.reader.specs.Format.{accepted, reading}
+use Rattle.format.specs.Syntax.{Sheet}
+use Rattle.format.specs.Format.{accepted, reading}
 use Rattle.reader.specs.Answers.{answerOf as readOf, withoutValue}
 use Rattle.reader.proofs.AnswerLaws.{was-accepted, was-refused}
 use Rattle.semantics.specs.Runs.{Entry, History, replies, holdsAfter}

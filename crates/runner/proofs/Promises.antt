@@ -7,8 +7,8 @@ use contract.Lifetimes.{Lfts}
 use denote.Ref.{now}
 use denote.Triple.Entry.{Args}
 use denote.Triple.Clauses.{Lasts, atExit}
-use Rattle.reader.specs.Syntax.{Sheet}
-use Rattle.reader.specs.Format.{accepted, reading}
+use Rattle.format.specs.Syntax.{Sheet}
+use Rattle.format.specs.Format.{accepted, reading}
 use Rattle.reader.specs.Answers.{withoutValue}
 use Rattle.runner.specs.declared.kept.Record.{Record}
 use Rattle.runner.specs.declared.kept.AfterLoad.{AfterLoad}

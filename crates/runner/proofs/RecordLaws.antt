@@ -8,13 +8,13 @@ use mathlib.Core.Path.{_≡_, refl, ap, _∙_}
 use lib.ListN.{length, replicate, take, drop, set, getD, length-drop, drop-of-length-le}
 use lib.Seq.{drop-cons, take-suc, take-all, take-length, set-at, length-take-le}
 use borrow.Author.Tests.{eq-eqb, ne-eqb, le-leb, lt-leb}
-use Rattle.reader.specs.Syntax.{Sheet}
-use Rattle.reader.specs.Format.{Answer, accepted, refused, reading}
+use Rattle.format.specs.Syntax.{Sheet}
+use Rattle.format.specs.Format.{Answer, accepted, refused, reading}
 use Rattle.reader.specs.declared.refusal.Refusal.{Refusal}
 use Rattle.reader.specs.declared.sheet.Answer.{Answer as Said}
 use Rattle.reader.specs.Answers.{numberOf, answerOf, withoutValue}
 use Rattle.reader.proofs.AnswerLaws.{was-accepted, was-refused}
-use Rattle.reader.proofs.SheetLaws.{accepted-length}
+use Rattle.format.proofs.SheetLaws.{accepted-length}
 use Rattle.runner.specs.Records.{padded, areZero, zeros, loadedFor, loaded, isPadded}
 use Rattle.runner.specs.declared.kept.Record.{Record}
 

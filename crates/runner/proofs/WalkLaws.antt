@@ -11,8 +11,8 @@ use Rattle.lists.specs.Lists.{if_then_else_, nonempty}
 use Rattle.lists.proofs.ListLaws.{two-cases, not-both}
 use Rattle.states.specs.declared.States.{States}
 use Rattle.states.specs.Sets.{members}
-use Rattle.reader.specs.Syntax.{replyCount, Sheet, actionOf}
-use Rattle.reader.specs.Format.{Answer, accepted, refused, reading}
+use Rattle.format.specs.Syntax.{replyCount, Sheet, actionOf}
+use Rattle.format.specs.Format.{Answer, accepted, refused, reading}
 use Rattle.reader.specs.declared.refusal.Refusal.{Refusal}
 use Rattle.reader.specs.Answers.{withoutValue}
 use Rattle.semantics.specs.Runs.{Entry, entry, History, extended, replies, holdsAfter, occurs}

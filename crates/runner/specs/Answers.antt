@@ -1,6 +1,6 @@
 -- What the answers of "Next" and "Report" mean: document 01's numbers and values. (Loading's is the reader's.)
 use Prim.Native.Nat.{ℕ}
-use Rattle.reader.specs.Format.{Answer, accepted, refused}
+use Rattle.format.specs.Format.{Answer, accepted, refused}
 use Rattle.semantics.specs.Replies.{Told as Meant, to-do, at-end}
 use Rattle.runner.specs.declared.answer.Rejection.{Rejection}
 use Rattle.runner.specs.declared.answer.Told.{Told}

@@ -5,7 +5,7 @@ use mathlib.Core.Path.{_≡_}
 use mathlib.Core.Logic.{_↔_}
 use mathlib.Core.List.{List, [], _∷_, _++_, map}
 use mathlib.Core.Bool.{Bool, true}
-use Rattle.reader.specs.Syntax.{Sheet}
+use Rattle.format.specs.Syntax.{Sheet}
 use Rattle.semantics.specs.Runs.{Entry, History, replies, Holds}
 use Rattle.semantics.specs.Routine.{Following, Full}
 use Rattle.semantics.specs.Replies.{RepliesOfRun}

@@ -6,8 +6,8 @@ use mathlib.Core.Bool.{Bool, true, false, _&&_}
 use lib.Dec.{leb, eqb}
 use lib.ListN.{length, replicate, take, drop}
 use Rattle.lists.specs.Lists.{if_then_else_, every}
-use Rattle.reader.specs.Syntax.{Sheet}
-use Rattle.reader.specs.Format.{Answer, accepted, refused, reading}
+use Rattle.format.specs.Syntax.{Sheet}
+use Rattle.format.specs.Format.{Answer, accepted, refused, reading}
 use Rattle.semantics.specs.Replies.{Told, to-do, at-end, told, reported, areOfRun}
 use Rattle.semantics.specs.Cases.{sheet1, sheet2}
 use Rattle.runner.specs.declared.kept.Record.{Record}

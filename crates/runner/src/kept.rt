@@ -8,7 +8,7 @@ use reader::Answer;
 ghost use mathlib.Core.Path.{_≡_};
 ghost use Prim.Native.Nat.{_≤_};
 ghost use lib.ListN.{length};
-ghost use Rattle.reader.specs.Format.{reading};
+ghost use Rattle.format.specs.Format.{reading};
 ghost use Rattle.reader.specs.Answers.{withoutValue, answerOf};
 ghost use Rattle.runner.specs.Records.{areZero, padded, zeros, loaded, isPadded, nextOn, reportOn, recordAfter};
 ghost use Rattle.runner.specs.Answers.{toldOf, reportedOf};

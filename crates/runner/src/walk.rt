@@ -13,7 +13,7 @@ use routine::head_at;
 use routine::prepare;
 use states::States;
 ghost use mathlib.Core.Path.{_≡_};
-ghost use Rattle.reader.specs.Format.{reading};
+ghost use Rattle.format.specs.Format.{reading};
 ghost use Rattle.reader.specs.Answers.{withoutValue};
 ghost use Rattle.runner.specs.Records.{resumed, nextOf, reportOf};
 ghost use Rattle.runner.specs.Answers.{toldOf, reportedOf};

@@ -8,12 +8,12 @@ use native.Mathlib.Omega.{arith}
 use lib.ListN.{length, length-map}
 use Rattle.lists.specs.Lists.{exists, below}
 use Rattle.lists.proofs.ListLaws.{not-both, and-both, every-mem, exists-mem, mem-exists}
-use Rattle.reader.specs.Syntax.{Program, end, act, branch, Action, replyCount, Sheet, actionOf}
-use Rattle.reader.specs.Truth.{isState, states, holds, moves, answers, allowed}
-use Rattle.reader.specs.Format.{accepted, reading, hasStart, leadsOn, hasReply}
-use Rattle.reader.proofs.StateLaws.{listed-state, state-listed, state-byte}
-use Rattle.reader.proofs.FormatLaws.{NumbersBelow}
-use Rattle.reader.proofs.SheetLaws.{accepted-shape, accepted-passed, action-mem, few-replies}
+use Rattle.format.specs.Syntax.{Program, end, act, branch, Action, replyCount, Sheet, actionOf}
+use Rattle.format.specs.Truth.{isState, states, holds, moves, answers, allowed}
+use Rattle.format.specs.Format.{accepted, reading, hasStart, leadsOn, hasReply}
+use Rattle.format.proofs.StateLaws.{listed-state, state-listed, state-byte}
+use Rattle.format.proofs.FormatLaws.{NumbersBelow}
+use Rattle.format.proofs.SheetLaws.{accepted-shape, accepted-passed, action-mem, few-replies}
 use Rattle.semantics.specs.Runs.{Entry, entry, History, extended, replies, step, Steps, IsRun, lastFrom, lastState, runs, holdsAfter, occurs}
 use Rattle.semantics.specs.Routine.{Policy, done, perform, policy, routine, Follows, isFull, Following, Full}
 use Rattle.semantics.specs.Verdict.{traceFrom, trace}
@@ -49,7 +49,7 @@ left-below k done (r ∷ rs) b = tt
 left-below k (perform a after) (r ∷ rs) b = left-below k (after r) rs (b .1 r)
 
 -- An action that leads on and has a reply in each state has a step from each state.
-action-steps : (sheet : Sheet) (a : Action) → leadsOn sheet a ≡ true → hasReply sheet a ≡ true → (s : ℕ) → isState sheet s ≡ true
+action-steps : (sheet : Sheet) (a : Action) → leadsOn (states sheet) a ≡ true → hasReply (states sheet) a ≡ true → (s : ℕ) → isState sheet s ≡ true
     → (r : ℕ) × (t : ℕ) × (isState sheet t ≡ true) × (allowed a s r t ≡ true)
 unfolding leadsOn hasReply allowed
 action-steps sheet a l h s i =

@@ -8,8 +8,8 @@ use lib.Dec.{leb, eqb}
 use lib.ListN.{length}
 use borrow.Author.Tests.{eqb-true, eq-eqb, le-leb}
 use Rattle.lists.proofs.ListLaws.{not-both, both-true, and-both}
-use Rattle.reader.specs.Syntax.{Sheet}
-use Rattle.reader.specs.Format.{accepted, reading}
+use Rattle.format.specs.Syntax.{Sheet}
+use Rattle.format.specs.Format.{accepted, reading}
 use Rattle.semantics.specs.Runs.{History, Steps, IsRun, isRun}
 use Rattle.semantics.specs.Routine.{routine, follows, Following, Full, Failing}
 use Rattle.semantics.specs.Verdict.{fails, traceFrom, trace}

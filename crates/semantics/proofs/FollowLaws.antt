@@ -11,7 +11,7 @@ use borrow.Author.Tests.{eqb-true, eq-eqb}
 use Rattle.lists.specs.Lists.{if_then_else_, keep, below, Sorted, Before}
 use Rattle.lists.proofs.ListLaws.{two-cases, not-both, both-true, keep-mem, mem-keep, flat-mem, mem-flat, mem-upFrom}
 use Rattle.lists.proofs.OrderLaws.{sorted-flat, sorted-keep, sorted-upFrom, before-behind}
-use Rattle.reader.specs.Syntax.{Epistemic, Program, end, act, branch, actionNodes, replyCount, Sheet, actionOf}
+use Rattle.format.specs.Syntax.{Epistemic, Program, end, act, branch, actionNodes, replyCount, Sheet, actionOf}
 use Rattle.semantics.specs.Runs.{Entry, entry, History, extended, replies, Holds, holdsAfter, occurs}
 use Rattle.semantics.specs.Routine.{Policy, done, perform, policy, routine, Follows, follows, isFull, Following}
 use Rattle.semantics.specs.Verdict.{historiesFrom, histories, HistoryBefore}

@@ -10,8 +10,8 @@ use lib.ListN.{length, take, drop, replicate, length-append, length-drop, length
 use lib.Seq.{take-at}
 use borrow.Author.Tests.{ltb-false, le-ltb}
 use Rattle.lists.specs.Lists.{if_then_else_}
-use Rattle.reader.specs.Syntax.{Sheet}
-use Rattle.reader.specs.Format.{Answer, accepted, refused, reading}
+use Rattle.format.specs.Syntax.{Sheet}
+use Rattle.format.specs.Format.{Answer, accepted, refused, reading}
 use Rattle.semantics.specs.Routine.{Failing, Full, Following}
 use Rattle.semantics.specs.Verdict.{Verdict, historyCount, trace, valid, invalid, stopped, outcome, written, Verified, judged, verified}
 use Rattle.semantics.specs.Printing.{printedFor, printed}

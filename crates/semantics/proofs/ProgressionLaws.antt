@@ -5,9 +5,9 @@ use mathlib.Core.List.{List, [], _∷_, _++_, List·Memᴰ}
 use mathlib.Core.Bool.{Bool, true, not, _&&_}
 use Rattle.lists.specs.Lists.{every, exists, keep, nonempty}
 use Rattle.lists.proofs.ListLaws.{same-test, both-true, keep-mem, mem-keep, every-mem, mem-every, exists-mem, mem-exists, exists-keep, keep-same, mem-nonempty, nonempty-mem}
-use Rattle.reader.specs.Syntax.{Objective, Epistemic, known, not-known, all-of, any-of, Sheet}
-use Rattle.reader.specs.Truth.{isState, states, holds}
-use Rattle.reader.proofs.StateLaws.{listed-state, state-listed}
+use Rattle.format.specs.Syntax.{Objective, Epistemic, known, not-known, all-of, any-of, Sheet}
+use Rattle.format.specs.Truth.{isState, states, holds}
+use Rattle.format.proofs.StateLaws.{listed-state, state-listed}
 use Rattle.semantics.specs.Runs.{Entry, History, step, Steps, IsRun, lastFrom, lastState, startStates, runs, knownAfter, holdsAfter, occurs}
 use Rattle.semantics.specs.Progression.{progress, possibleFrom, possible, satisfies, startSet, nextSet, setAfter}
 use Rattle.semantics.proofs.RunLaws.{listed-run, run-listed, occurs-run, run-occurs}

@@ -10,9 +10,9 @@ use lib.ListN.{length, length-map}
 use borrow.Author.Tests.{lt-ltb, eqb-true, eq-eqb}
 use Rattle.lists.specs.Lists.{if_then_else_, exists, nonempty}
 use Rattle.lists.proofs.ListLaws.{two-cases, same-test, not-both, both-true, and-both, keep-mem, mem-keep, exists-mem, mem-exists, mem-nonempty, nonempty-mem}
-use Rattle.reader.specs.Syntax.{replyCount, Sheet, actionOf}
-use Rattle.reader.specs.Truth.{states}
-use Rattle.reader.specs.Format.{accepted, refused}
+use Rattle.format.specs.Syntax.{replyCount, Sheet, actionOf}
+use Rattle.format.specs.Truth.{states}
+use Rattle.format.specs.Format.{accepted, refused}
 use Rattle.semantics.specs.Runs.{Entry, entry, History, extended, replies, step, lastState, Holds, runs, holdsAfter, occurs}
 use Rattle.semantics.specs.Routine.{Policy, done, perform, routine, Follows, isFull, Following, Full, Failing}
 use Rattle.semantics.specs.Verdict.{historyCount, valid, Outcome, outcome}

@@ -8,9 +8,9 @@ use borrow.Author.Tests.{not-true}
 use Rattle.lists.specs.Lists.{Sorted, Before}
 use Rattle.lists.proofs.ListLaws.{two-cases, not-both, both-true, and-both, one-true, or-left, or-right, keep-mem, mem-keep, every-mem, mem-every, flat-mem, mem-flat, mem-nonempty, nonempty-mem}
 use Rattle.lists.proofs.OrderLaws.{sorted-keep, sorted-flat, sorted-map}
-use Rattle.reader.specs.Syntax.{Objective, Epistemic, known, not-known, all-of, any-of, replyCount, Sheet, actionOf}
-use Rattle.reader.specs.Truth.{isState, states, holds, moves, answers, allowed}
-use Rattle.reader.proofs.StateLaws.{listed-state, state-listed, states-sorted, answer-exists}
+use Rattle.format.specs.Syntax.{Objective, Epistemic, known, not-known, all-of, any-of, replyCount, Sheet, actionOf}
+use Rattle.format.specs.Truth.{isState, states, holds, moves, answers, allowed}
+use Rattle.format.proofs.StateLaws.{listed-state, state-listed, states-sorted, answer-exists}
 use Rattle.semantics.specs.Runs.{History, step, Steps, IsRun, lastState, Known, Holds, startStates, nextStates, runsFrom, runs, knownAfter, holdsAfter, occurs, isSteps, isRun}
 use Rattle.semantics.specs.Verdict.{leastRun}
 

@@ -11,7 +11,7 @@ use borrow.Author.Tests.{not-true, ltb-true, ltb-false, le-ltb, lt-ltb}
 use Rattle.lists.specs.Lists.{if_then_else_, upTo, nonempty, Sorted, Before}
 use Rattle.lists.proofs.ListLaws.{two-cases, not-both, both-true, and-both, keep-mem, mem-keep}
 use Rattle.lists.proofs.OrderLaws.{sorted-keep, sorted-upTo, upTo-mem, upTo-first, mem-upTo, before-asym}
-use Rattle.reader.specs.Syntax.{Sheet}
+use Rattle.format.specs.Syntax.{Sheet}
 use Rattle.semantics.specs.Runs.{History, replies, IsRun, holdsAfter, occurs}
 use Rattle.semantics.specs.Routine.{routine, isFull, Following, Full, Failing}
 use Rattle.semantics.specs.Verdict.{histories, HistoryBefore, fails, counted, historyCount, trace, TraceBefore, valid, invalid, stopped, Outcome, failures, leastRun, concluded, outcome}

@@ -4,8 +4,8 @@ use mathlib.Core.List.{List, [], _∷_, _++_, map}
 use mathlib.Core.Path.{_≡_, refl}
 use lib.ListN.{length, replicate}
 use Rattle.lists.specs.Lists.{upFrom, below}
-use Rattle.reader.specs.Syntax.{Objective, top, fact, new-fact, negation, conjunction, disjunction, equivalence, Epistemic, known, not-known, any-of, Program, end, act, branch, Action, change, probe, Sheet}
-use Rattle.reader.specs.Format.{Answer, accepted, refused, reading}
+use Rattle.format.specs.Syntax.{Objective, top, fact, new-fact, negation, conjunction, disjunction, equivalence, Epistemic, known, not-known, any-of, Program, end, act, branch, Action, change, probe, Sheet}
+use Rattle.format.specs.Format.{Answer, accepted, refused, reading}
 use Rattle.semantics.specs.Verdict.{Verdict, valid, invalid, stopped, outcome, longestTrace, verified}
 use Rattle.semantics.specs.Replies.{reported}
 use Rattle.semantics.specs.Printing.{digit, printed}

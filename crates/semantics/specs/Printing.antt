@@ -4,7 +4,7 @@ use mathlib.Core.List.{List, [], _∷_, _++_}
 use lib.Dec.{ltb}
 use lib.ListN.{replicate, take}
 use Rattle.lists.specs.Lists.{if_then_else_}
-use Rattle.reader.specs.Format.{Answer, accepted, refused}
+use Rattle.format.specs.Format.{Answer, accepted, refused}
 use Rattle.semantics.specs.Verdict.{Verdict, valid, invalid, stopped, longestTrace, Verified, verified}
 
 -- The bytes of a space, a line feed, and the digits from "0" and from "a" on.

@@ -4,8 +4,8 @@ use Prim.Native.Nat.{ℕ}
 use mathlib.Core.List.{List, [], _∷_}
 use mathlib.Core.Bool.{Bool, not, _&&_, _||_}
 use Rattle.lists.specs.Lists.{exists, every, keep}
-use Rattle.reader.specs.Syntax.{Sheet, Epistemic, known, not-known, all-of, any-of}
-use Rattle.reader.specs.Truth.{isState, states, holds}
+use Rattle.format.specs.Syntax.{Sheet, Epistemic, known, not-known, all-of, any-of}
+use Rattle.format.specs.Truth.{isState, states, holds}
 use Rattle.semantics.specs.Runs.{Entry, History, step, startStates}
 
 -- The states to which an entry leads from some state of a list, in order.

@@ -7,9 +7,9 @@ use mathlib.Core.Bool.{Bool, _&&_}
 use lib.Dec.{ltb, eqb}
 use lib.ListN.{length}
 use Rattle.lists.specs.Lists.{if_then_else_, exists}
-use Rattle.reader.specs.Syntax.{replyCount, Sheet, actionOf}
-use Rattle.reader.specs.Truth.{states}
-use Rattle.reader.specs.Format.{Answer, accepted, refused}
+use Rattle.format.specs.Syntax.{replyCount, Sheet, actionOf}
+use Rattle.format.specs.Truth.{states}
+use Rattle.format.specs.Format.{Answer, accepted, refused}
 use Rattle.semantics.specs.Runs.{Entry, History, entry, replies, step, runs, lastState, holdsAfter, occurs}
 use Rattle.semantics.specs.Routine.{Policy, done, perform, routine, Following}
 

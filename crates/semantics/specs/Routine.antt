@@ -5,7 +5,7 @@ use mathlib.Core.Bool.{Bool, true, false, _&&_}
 use mathlib.Core.Path.{_≡_}
 use lib.Dec.{eqb}
 use Rattle.lists.specs.Lists.{if_then_else_}
-use Rattle.reader.specs.Syntax.{Program, end, act, branch, Sheet}
+use Rattle.format.specs.Syntax.{Program, end, act, branch, Sheet}
 use Rattle.semantics.specs.Runs.{History, extended, IsRun, Holds, holdsAfter}
 
 -- A program with its branches decided: nothing is left, or the next action, and what is left after each of its replies. (2013, Definition 4: the standard

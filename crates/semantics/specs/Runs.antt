@@ -5,8 +5,8 @@ use mathlib.Core.Path.{_≡_}
 use mathlib.Core.Logic.{_⊎_}
 use mathlib.Core.Bool.{Bool, true, false, not, _&&_, _||_}
 use Rattle.lists.specs.Lists.{every, keep, nonempty}
-use Rattle.reader.specs.Syntax.{Objective, Epistemic, known, not-known, all-of, any-of, Sheet, actionOf}
-use Rattle.reader.specs.Truth.{isState, states, holds, allowed}
+use Rattle.format.specs.Syntax.{Objective, Epistemic, known, not-known, all-of, any-of, Sheet, actionOf}
+use Rattle.format.specs.Truth.{isState, states, holds, allowed}
 
 -- An entry of a history: an action's number and the number of its reply, "a change's reply being 0".
 pub record Entry : Type 0 where

@@ -7,8 +7,8 @@ use mathlib.Core.Bool.{Bool, not, _&&_}
 use lib.Dec.{ltb}
 use lib.ListN.{length, drop}
 use Rattle.lists.specs.Lists.{if_then_else_, upFrom, below, keep, upTo, nonempty, Before}
-use Rattle.reader.specs.Syntax.{replyCount, Sheet, actionOf}
-use Rattle.reader.specs.Format.{Answer, accepted, refused, reading}
+use Rattle.format.specs.Syntax.{replyCount, Sheet, actionOf}
+use Rattle.format.specs.Format.{Answer, accepted, refused, reading}
 use Rattle.semantics.specs.Runs.{History, extended, replies, runs, holdsAfter, occurs}
 use Rattle.semantics.specs.Routine.{Policy, done, perform, routine, isFull}
 

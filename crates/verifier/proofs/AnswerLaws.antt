@@ -10,11 +10,11 @@ use lib.ListN.{length, take, drop, getD, take-append-drop, length-append, length
 use Rattle.lists.specs.Lists.{if_then_else_}
 use Rattle.lists.proofs.ListLaws.{append-past}
 use Rattle.states.specs.declared.States.{States}
-use Rattle.reader.specs.Syntax.{Sheet}
-use Rattle.reader.specs.Format.{accepted, reading}
+use Rattle.format.specs.Syntax.{Sheet}
+use Rattle.format.specs.Format.{accepted, reading}
 use Rattle.reader.specs.Answers.{numberOf}
 use Rattle.reader.specs.declared.refusal.Refusal.{Refusal}
-use Rattle.reader.proofs.SheetLaws.{accepted-shape}
+use Rattle.format.proofs.SheetLaws.{accepted-shape}
 use Rattle.semantics.specs.Runs.{Entry, entry, History}
 use Rattle.semantics.specs.Routine.{Following, Full, Failing}
 use Rattle.semantics.specs.Verdict.{historyCount, failures, trace, stopped, Outcome, leastRun, concluded, outcome, written, Verified, verified}

@@ -12,10 +12,9 @@ use Rattle.lists.proofs.ListLaws.{same-test, not-both, both-true, and-both, exi
 use Rattle.states.specs.declared.States.{States}
 use Rattle.states.specs.Sets.{member, setOf, members, leastOf}
 use Rattle.states.proofs.SetLaws.{member-setOf, members-setOf}
-use Rattle.reader.specs.Syntax.{probe, replyCount, Sheet, actionOf}
-use Rattle.reader.specs.Truth.{isState, states, holds}
-use Rattle.reader.proofs.StateLaws.{listed-state, state-listed, state-byte}
-use Rattle.reader.proofs.StageLaws.{space-states}
+use Rattle.format.specs.Syntax.{probe, replyCount, Sheet, actionOf}
+use Rattle.format.specs.Truth.{isState, states, holds}
+use Rattle.format.proofs.StateLaws.{listed-state, state-listed, state-byte, states-bytes}
 use Rattle.semantics.specs.Runs.{Entry, History, step, startStates, nextStates, runsFrom, runs, occurs}
 use Rattle.semantics.specs.Verdict.{leastRun}
 use Rattle.semantics.proofs.RunLaws.{Replied, occurs-run, run-replied}
@@ -115,12 +114,11 @@ module _ (sheet : Sheet) (few : sheet .facts ≤ 8) (heads nodes sets : List ℕ
   -- The states from which a run with the history starts, among those of a test that only states pass; and the first run from these.
   module _ (from : ℕ → Bool) (inside : (s : ℕ) → from s ≡ true → isState sheet s ≡ true) where
     starting : (h : History) → Replied sheet h → members (setOf (λ s. member (setOf from) s && member (feasible heads sets h) s)) ≡ keep (λ s. nonempty (runsFrom sheet s h)) (keep from (states sheet))
-    unfolding isState
     starting h replied =
         members-setOf (λ s. member (setOf from) s && member (feasible heads sets h) s)
         ∙ keep-same (λ s. member (setOf from) s && member (feasible heads sets h) s) both (below 256) (λ s m. same s (upFrom-mem 0 256 m .1))
         ∙ sym (keep-within both (isState sheet) (below 256) (λ s k. inside s (both-true (from s) (nonempty (runsFrom sheet s h)) k .0)))
-        ∙ ap (keep both) (sym (members-setOf (isState sheet)) ∙ space-states sheet few)
+        ∙ ap (keep both) (states-bytes sheet few)
         ∙ sym (keep-keep (λ s. nonempty (runsFrom sheet s h)) from (states sheet))
       where
         both : ℕ → Bool

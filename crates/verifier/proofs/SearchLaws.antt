@@ -12,8 +12,8 @@ use Rattle.lists.specs.Lists.{if_then_else_, below, keep, upTo, nonempty, Sorte
 use Rattle.lists.proofs.OrderLaws.{upTo-mem}
 use Rattle.states.specs.declared.States.{States}
 use Rattle.states.specs.Sets.{members}
-use Rattle.reader.specs.Syntax.{replyCount, Sheet, actionOf}
-use Rattle.reader.specs.Format.{accepted, reading}
+use Rattle.format.specs.Syntax.{replyCount, Sheet, actionOf}
+use Rattle.format.specs.Format.{accepted, reading}
 use Rattle.semantics.specs.Runs.{Entry, entry, History, extended, replies, holdsAfter, occurs}
 use Rattle.semantics.specs.Routine.{Policy, done, perform, routine, isFull}
 use Rattle.semantics.specs.Verdict.{historiesFrom, histories, HistoryBefore, fails, counted, historyCount, failures}

@@ -3,7 +3,7 @@ use Prim.Native.Nat.{ℕ, _%_}
 use mathlib.Core.List.{List, map}
 use lib.ListN.{length}
 use Rattle.states.specs.declared.States.{States}
-use Rattle.reader.specs.Format.{Answer, accepted, refused}
+use Rattle.format.specs.Format.{Answer, accepted, refused}
 use Rattle.reader.specs.Answers.{numberOf}
 use Rattle.semantics.specs.Runs.{Entry, entry}
 use Rattle.semantics.specs.Verdict.{Verdict as Meant, valid, invalid, stopped, trace, written}

@@ -8,7 +8,7 @@ use lib.Dec.{eqb, leb, ltb}
 use lib.ListN.{length, getD}
 use Rattle.lists.specs.Lists.{if_then_else_}
 use Rattle.states.specs.declared.States.{States}
-use Rattle.reader.specs.Syntax.{fact, negation, Epistemic, known, any-of}
+use Rattle.format.specs.Syntax.{fact, negation, Epistemic, known, any-of}
 use Rattle.routine.specs.Memory.{words}
 use Rattle.routine.specs.Tables.{sheetHeads, nodeCells, setWords, low}
 use Rattle.verifier.specs.declared.memo.Slot.{Slot}

@@ -9,7 +9,7 @@ use lib.ListN.{length, take}
 use Rattle.lists.specs.Lists.{if_then_else_, upFrom, below, nonempty}
 use Rattle.states.specs.declared.States.{States}
 use Rattle.states.specs.Sets.{members}
-use Rattle.reader.specs.Syntax.{top, fact, negation, Epistemic, known, any-of, end, act, probe, Sheet}
+use Rattle.format.specs.Syntax.{top, fact, negation, Epistemic, known, any-of, end, act, probe, Sheet}
 use Rattle.semantics.specs.Runs.{Entry, entry, History}
 use Rattle.routine.specs.Memory.{headAt}
 use Rattle.routine.specs.Tables.{sheetHeads, nodeCells, setWords, low}

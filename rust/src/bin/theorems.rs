@@ -20,8 +20,8 @@ const CLAIMS: &str = "\
 use Prim.Native.Nat.{ℕ}
 use mathlib.Core.List.{List, []}
 use mathlib.Core.Path.{_≡_}
-use Rattle.reader.specs.Syntax.{Sheet}
-use Rattle.reader.specs.Format.{Answer, accepted, refused, reading}
+use Rattle.format.specs.Syntax.{Sheet}
+use Rattle.format.specs.Format.{Answer, accepted, refused, reading}
 use Rattle.semantics.specs.Verdict.{Verdict, Verified, verified}
 use Rattle.semantics.specs.Replies.{Told, told, reported}
 use Rattle.semantics.specs.Cases.{memoryWith}
@@ -54,7 +54,7 @@ use Prim.Native.Nat.{ℕ}
 use mathlib.Core.List.{List, [], _∷_}
 use mathlib.Core.Path.{_≡_, refl}
 use mathlib.Core.Bool.{true, false}
-use Rattle.reader.specs.Format.{accepted, refused, reading}
+use Rattle.format.specs.Format.{accepted, refused, reading}
 use Rattle.semantics.specs.Verdict.{valid, invalid, stopped, verified}
 use Rattle.semantics.specs.Replies.{to-do, at-end}
 use Rattle.semantics.specs.Checker.{checked}

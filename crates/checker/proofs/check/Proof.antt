@@ -4,7 +4,7 @@ use mathlib.Core.Path.{_≡_, sym, ap, _∙_}
 use lib.ListN.{replicate, length-replicate}
 use denote.Ref.{now}
 use borrow.Author.Needs.{needs}
-use Rattle.reader.specs.Format.{accepted}
+use Rattle.format.specs.Format.{accepted}
 use Rattle.semantics.specs.Checker.{checked}
 use Rattle.routine.specs.Tables.{preparedOf}
 use Rattle.checker.specs.Shown.{answerOf}

@@ -3,7 +3,7 @@ use mathlib.Core.Path.{sym, ap, _∙_}
 use native.Mathlib.Omega.{arith}
 use borrow.Author.Needs.{needs}
 use denote.Ref.{now}
-use Rattle.reader.specs.Format.{mapped}
+use Rattle.format.specs.Format.{mapped}
 use Rattle.reader.specs.Answers.{numberOf, fieldRead, setRead}
 use Rattle.reader.specs.Stages.{someHolds}
 use Rattle.reader.proofs.TestLaws.{replies-cut, replies-few, replies-many, replies-counted}

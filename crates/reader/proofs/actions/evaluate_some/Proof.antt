@@ -5,7 +5,7 @@ use native.Mathlib.Omega.{arith}
 use borrow.Author.Needs.{needs}
 use denote.Ref.{now}
 use Rattle.states.specs.Sets.{member, setOf}
-use Rattle.reader.specs.Format.{mapped, objectives}
+use Rattle.format.specs.Format.{mapped, objectives}
 use Rattle.reader.specs.Answers.{setRead, inTheory}
 use Rattle.reader.specs.Stages.{someHolds}
 use Rattle.reader.proofs.TestLaws.{joinedTo, set-own, replies-start, replies-more, replies-refused, replies-end}

@@ -2,8 +2,8 @@
 use mathlib.Core.Path.{sym, ap, _∙_}
 use borrow.Author.Needs.{needs}
 use denote.Ref.{now}
-use Rattle.reader.specs.Format.{mapped}
-use Rattle.reader.specs.Syntax.{change, probe}
+use Rattle.format.specs.Format.{mapped}
+use Rattle.format.specs.Syntax.{change, probe}
 use Rattle.reader.specs.Answers.{numberOf, fieldRead, endRead, setRead, inTheory, ending}
 use Rattle.reader.specs.Stages.{someHolds}
 use Rattle.reader.proofs.ReaderLaws.{ends-mapped}

@@ -5,7 +5,7 @@ use native.Mathlib.Omega.{arith}
 use native.Mathlib.Nat.{sub-zero}
 use borrow.Author.Needs.{needs}
 use denote.Ref.{now}
-use Rattle.reader.specs.Format.{mapped, actionList}
+use Rattle.format.specs.Format.{mapped, actionList}
 use Rattle.reader.specs.Answers.{endRead, ending}
 use Rattle.reader.proofs.TestLaws.{actions-more, actions-refused, actions-end}
 use Rattle.reader.proofs.actions.read_actions.Statement.{statement}

@@ -2,7 +2,7 @@
 use mathlib.Core.Path.{sym, ap, _∙_}
 use borrow.Author.Needs.{needs}
 use Rattle.states.specs.Sets.{members}
-use Rattle.reader.specs.Syntax.{probe}
+use Rattle.format.specs.Syntax.{probe}
 use Rattle.reader.specs.Answers.{numberOf, setRead, endRead}
 use Rattle.reader.specs.Stages.{someHolds}
 use Rattle.reader.proofs.TestLaws.{probe-passes, probe-fails, tested-refused}

@@ -4,7 +4,7 @@ use lib.ListN.{length}
 use native.Mathlib.Omega.{arith}
 use borrow.Author.Tests.{le-leb, lt-leb}
 use Rattle.lists.specs.Lists.{if_then_else_}
-use Rattle.reader.specs.Format.{field}
+use Rattle.format.specs.Format.{field}
 use Rattle.reader.specs.Answers.{fieldRead}
 use borrow.Author.Needs.{needs}
 use Rattle.reader.proofs.bits.field_at.Statement.{statement}

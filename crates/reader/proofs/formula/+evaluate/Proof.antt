@@ -8,8 +8,8 @@ use mathlib.Core.List.{List}
 use Rattle.lists.specs.Lists.{if_then_else_}
 use Rattle.states.specs.declared.States.{States}
 use Rattle.reader.specs.declared.formula.View.{View}
-use Rattle.reader.specs.Syntax.{Objective}
-use Rattle.reader.specs.Format.{Read, Reader, got, mapped, field, objective, objectiveBehind}
+use Rattle.format.specs.Syntax.{Objective}
+use Rattle.format.specs.Format.{Read, Reader, got, mapped, field, objective, objectiveBehind}
 use Rattle.reader.specs.Answers.{numberOf, fieldRead, setRead, inTheory, table}
 use Rattle.reader.specs.Tables.{fromOf, toOf, factTable}
 use Rattle.reader.proofs.ReaderLaws.{objective-none, objective-cut, objective-tag}

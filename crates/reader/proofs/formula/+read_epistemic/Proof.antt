@@ -6,10 +6,10 @@ use mathlib.Core.Bool.{false}
 use mathlib.Core.List.{List}
 use Prim.Native.Nat.{ℕ, _-_, _<_}
 use denote.Ref.{now}
-use Rattle.reader.specs.Syntax.{Objective, Epistemic}
-use Rattle.reader.specs.Format.{Read, Reader, got, mapped, field, objective, epistemic, epistemicBehind}
+use Rattle.format.specs.Syntax.{Objective, Epistemic}
+use Rattle.format.specs.Format.{Read, Reader, got, mapped, field, objective, epistemic, epistemicBehind}
 use Rattle.reader.specs.Answers.{numberOf, fieldRead, endRead, inTheory, ending}
-use Rattle.reader.proofs.ReaderLaws.{epistemic-none, epistemic-cut, epistemic-tag, ends-known, ends-two, ends-refused}
+use Rattle.reader.proofs.ReaderLaws.{epistemicOf, epistemic-none, epistemic-cut, epistemic-tag, ends-known, ends-two, ends-refused}
 use borrow.Fn.Kinds.{In}
 use borrow.Fn.PlainCycle.{Measures, is, falls, and}
 use Rattle.reader.proofs.formula.read_epistemic.Reads as self
@@ -59,7 +59,7 @@ module _ (t : ℕ) where
   abbrev value : Told → Read Unit
   value c = let a = start c .args in mapped ending (epistemic (a .n) (a .left) (now (a .s)) (a .at))
 
-  whole : (c : Told) → value c ≡ mapped ending (epistemicBehind (inside c) (part c) (tag c) (bytes c) (next c))
+  whole : (c : Told) → value c ≡ mapped ending (epistemicBehind (inside c) (part c) (epistemicOf (tag c)) (bytes c) (next c))
   unfolding fieldRead
   whole c =
       let a = start c .args in

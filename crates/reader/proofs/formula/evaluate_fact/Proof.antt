@@ -1,9 +1,9 @@
 -- `reader::evaluate_fact` meets its contract: a fact number, and the fact's set in the view. Assumes nothing.
 use mathlib.Core.Path.{sym, ap, _∙_}
-use Rattle.reader.specs.Format.{mapped}
+use Rattle.format.specs.Format.{mapped}
 use Rattle.reader.specs.Answers.{fieldRead, setRead, numberOf}
 use Rattle.reader.specs.Tables.{factTable}
-use Rattle.reader.proofs.FormatLaws.{field-below}
+use Rattle.format.proofs.FormatLaws.{field-below}
 use Rattle.reader.proofs.ReaderLaws.{fact-cut, fact-in, fact-out}
 use borrow.Author.Needs.{needs}
 use Rattle.reader.proofs.formula.evaluate_fact.Statement.{statement}

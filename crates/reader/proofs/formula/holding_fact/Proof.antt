@@ -3,7 +3,7 @@ use mathlib.Core.Path.{_≡_, sym, ap, _∙_}
 use Prim.Native.Nat.{ℕ, suc, _≤_, _<_}
 use native.Mathlib.Omega.{arith}
 use Rattle.states.specs.Sets.{setOf}
-use Rattle.reader.specs.Truth.{factIn}
+use Rattle.format.specs.Truth.{factIn}
 use borrow.Author.Needs.{needs}
 use Rattle.reader.proofs.formula.holding_fact.Statement.{statement}
 use Rattle.reader.proofs.formula.holding_fact.Tie as tie

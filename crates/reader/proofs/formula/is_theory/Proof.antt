@@ -10,9 +10,6 @@ enum-told c = search needs
 enum-known-view : tie.Need-enum-known-view
 enum-known-view c = search needs
 
-enum-known-view-2 : tie.Need-enum-known-view-2
-enum-known-view-2 c = search needs
-
 returns : tie.Need-returns
 unfolding inTheory
 returns c = rw (c .enum-told .given .1)
@@ -21,10 +18,6 @@ returns-2 : tie.Need-returns-2
 unfolding inTheory
 returns-2 c = rw (c .before .view .given .1)
 
-returns-3 : tie.Need-returns-3
-unfolding inTheory
-returns-3 c = rw (c .before .view2 .given .1)
-
 pub is-theory-spec : {M : Type 1} → statement M
 is-theory-spec =
-    tie.close (tie.spec enum-told enum-known-view enum-known-view-2 returns returns-2 returns-3)
+    tie.close (tie.spec enum-told enum-known-view returns returns-2)

@@ -1,6 +1,6 @@
 -- `reader::read_objective` meets its contract: it ends where the evaluation ends. Assumes nothing.
 use mathlib.Core.Path.{sym, ap, _∙_}
-use Rattle.reader.specs.Format.{mapped, objective}
+use Rattle.format.specs.Format.{mapped, objective}
 use Rattle.reader.specs.Answers.{numberOf, endRead, setRead, inTheory, table, ending}
 use Rattle.reader.proofs.ReaderLaws.{ends-mapped}
 use borrow.Author.Needs.{needs}

@@ -5,7 +5,7 @@ use Prim.Native.Nat.{ℕ}
 use Rattle.lists.specs.Lists.{if_then_else_}
 use Rattle.states.specs.Sets.{setOf}
 use Rattle.reader.specs.declared.formula.View.{View}
-use Rattle.reader.specs.Truth.{factIn}
+use Rattle.format.specs.Truth.{factIn}
 use Rattle.reader.specs.Tables.{fromOf, toOf, factTable}
 use borrow.Author.Needs.{needs}
 use Rattle.reader.proofs.formula.seen.Statement.{statement}
@@ -42,36 +42,13 @@ shr-uniform c = search needs
 uniform-requires : tie.Need-uniform-requires
 uniform-requires c κs = search needs
 
-enum-known-view-2 : tie.Need-enum-known-view-2
-enum-known-view-2 c = search needs
-
-wide-requires-2 : tie.Need-wide-requires-2
-wide-requires-2 c κs = search needs
-
-shr-uniform-2 : tie.Need-shr-uniform-2
-shr-uniform-2 c = search needs
-
-uniform-requires-2 : tie.Need-uniform-requires-2
-uniform-requires-2 c κs = search needs
-
 returns-2 : tie.Need-returns-2
 unfolding factTable fromOf toOf factIn if_then_else_
-returns-2 c = c .uniform2 .ensures ∙ rw (c .before .wide2 .ensures) (sym (rw (c .before .before .before .before .view2 .given .1, c .before .before .if2 .taken)))
-
-holding-fact-requires-3 : tie.Need-holding-fact-requires-3
-holding-fact-requires-3 c κs = search needs
+returns-2 c = c .holding-fact .ensures ∙ sym (rw (c .before .enum-told .given .1) (either-way (c .before .before .before .args .fresh) (c .before .before .before .args .i)))
 
 returns-3 : tie.Need-returns-3
 unfolding factTable fromOf toOf factIn if_then_else_
-returns-3 c = c .holding-fact .ensures ∙ sym (rw (c .before .enum-told .given .1) (either-way (c .before .before .before .args .fresh) (c .before .before .before .args .i)))
-
-returns-4 : tie.Need-returns-4
-unfolding factTable fromOf toOf factIn if_then_else_
-returns-4 c = c .uniform .ensures ∙ rw (c .before .wide .ensures) (sym (rw (c .before .before .before .before .view .given .1, c .before .before .if1 .left)))
-
-returns-5 : tie.Need-returns-5
-unfolding factTable fromOf toOf factIn if_then_else_
-returns-5 c = c .holding-fact3 .ensures ∙ sym (rw (c .before .before .before .view2 .given .1, c .before .if2 .left))
+returns-3 c = c .uniform .ensures ∙ rw (c .before .wide .ensures) (sym (rw (c .before .before .before .before .view .given .1, c .before .before .if1 .left)))
 
 pub seen-spec : {M : Type 1} → statement M
 seen-spec =
@@ -85,12 +62,5 @@ seen-spec =
     wide-requires
     shr-uniform
     uniform-requires
-    enum-known-view-2
-    wide-requires-2
-    shr-uniform-2
-    uniform-requires-2
     returns-2
-    holding-fact-requires-3
-    returns-3
-    returns-4
-    returns-5)
+    returns-3)

@@ -2,7 +2,7 @@
 use mathlib.Core.Path.{_≡_, sym, ap, _∙_}
 use native.Mathlib.Omega.{arith}
 use borrow.Author.Tests.{eq-eqb, ne-eqb}
-use Rattle.reader.specs.Format.{got, field}
+use Rattle.format.specs.Format.{got, field}
 use Rattle.reader.specs.Nodes.{actionHead}
 use Rattle.reader.specs.Answers.{numberOf, fieldRead}
 use Rattle.reader.specs.NodeAnswers.{actionNodeRead}

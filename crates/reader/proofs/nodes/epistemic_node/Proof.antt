@@ -2,8 +2,7 @@
 use mathlib.Core.Path.{_≡_, sym, ap, _∙_}
 use native.Mathlib.Omega.{arith}
 use borrow.Author.Tests.{eq-eqb, ne-eqb}
-use Rattle.reader.specs.Format.{got, field}
-use Rattle.reader.specs.Nodes.{epistemicHead}
+use Rattle.format.specs.Format.{got, field, epistemicHead}
 use Rattle.reader.specs.Answers.{numberOf, fieldRead}
 use Rattle.reader.specs.NodeAnswers.{epistemicNodeRead}
 use Rattle.reader.proofs.NodeLaws.{sheet-short, sheet-long, epistemic-cut, known-first, not-known-first, all-of-first, any-of-first}

@@ -1,7 +1,7 @@
 -- `reader::objective_states` meets its contract. Assumes nothing.
 use mathlib.Core.Path.{refl, ap, _∙_}
 use native.Mathlib.Omega.{arith}
-use Rattle.reader.specs.Format.{mapped, objective}
+use Rattle.format.specs.Format.{mapped, objective}
 use Rattle.reader.specs.Answers.{numberOf, setRead, inTheory, table}
 use Rattle.reader.proofs.NodeLaws.{sheet-short, sheet-long}
 use borrow.Author.Needs.{needs}

@@ -1,9 +1,8 @@
--- `reader::read` meets its contract: the method's answer, which is that of `reading` (`read-stages`). Assumes nothing.
-use mathlib.Core.Path.{sym, ap, _∙_}
-use Rattle.reader.specs.Answers.{answerOf, endRead}
-use Rattle.reader.specs.NodeAnswers.{headerRead}
-use Rattle.reader.specs.Stages.{answerAt}
-use Rattle.reader.proofs.StageLaws.{read-stages, header-refused, header-short, header-read}
+-- `reader::sheet::read` meets its contract: the header, the fields behind it and the tests behind these, as `reading` has them. Assumes nothing.
+use mathlib.Core.Path.{_≡_, sym, ap, _∙_}
+use Rattle.reader.specs.Answers.{answerOf, setRead}
+use Rattle.reader.specs.NodeAnswers.{headerOf, headerRead}
+use Rattle.reader.proofs.StageLaws.{read-short, read-limits, read-space, no-header, no-body, read-tested}
 use borrow.Author.Needs.{needs}
 use Rattle.reader.proofs.sheet.read.Statement.{statement}
 use Rattle.reader.proofs.sheet.read.Tie as tie
@@ -14,40 +13,39 @@ header-requires c κs = search needs
 enum-known-r : tie.Need-enum-known-r
 enum-known-r c = search needs
 
-enum-known-n : tie.Need-enum-known-n
-enum-known-n c = search needs
+enum-known-h : tie.Need-enum-known-h
+enum-known-h c = search needs
 
-after-header-requires : tie.Need-after-header-requires
+read-body-requires : tie.Need-read-body-requires
 unfolding headerRead
-after-header-requires c κs = header-short _ (sym (c .before .before .before .header .ensures) ∙ ap headerRead (c .before .n .given .1))
+read-body-requires c κs =
+    read-short (c .before .before .before .before .before .args .s .now) (sym (c .before .before .before .header .ensures) ∙ ap headerRead (c .before .h .given .1))
 
 enum-known-r-2 : tie.Need-enum-known-r-2
 enum-known-r-2 c = search needs
 
-enum-known-end : tie.Need-enum-known-end
-enum-known-end c = search needs
+enum-known-start : tie.Need-enum-known-start
+enum-known-start c = search needs
+
+test-body-requires : tie.Need-test-body-requires
+unfolding headerRead headerOf
+test-body-requires c κs =
+    (read-short (c .before .before .before .before .before .before .before .before .before .args .s .now) (sym (c .before .before .before .before .before .before .before .header .ensures) ∙ ap headerRead (c .before .before .before .before .before .h .given .1)), read-limits (c .before .before .before .before .before .before .before .before .before .args .s .now) (sym (c .before .before .before .before .before .before .before .header .ensures) ∙ ap headerRead (c .before .before .before .before .before .h .given .1)), read-space (c .before .before .before .before .before .before .before .before .before .args .s .now) (sym (c .before .before .before .before .before .before .before .header .ensures) ∙ ap headerRead (c .before .before .before .before .before .h .given .1)))
 
 returns : tie.Need-returns
 unfolding headerRead answerOf
 returns c =
-    let a = c .before .before .before .before .before .args in
-    sym (read-stages (a .s .now) ∙ header-refused (a .s .now) (sym (c .before .before .before .header .ensures) ∙ ap headerRead (c .before .r .given .1)))
+    sym (no-header (c .before .before .before .before .before .args .s .now) (sym (c .before .before .before .header .ensures) ∙ ap headerRead (c .before .r .given .1)))
 
 returns-2 : tie.Need-returns-2
-unfolding headerRead endRead answerOf answerAt
+unfolding headerRead headerOf setRead answerOf
 returns-2 c =
-    let a = c .before .before .before .before .before .before .before .before .before .args in
-    let h = sym (c .before .before .before .before .before .before .before .header .ensures) ∙ ap headerRead (c .before .before .before .before .before .n .given .1) in
-    let e = sym (c .before .before .before .after-header .ensures) ∙ ap endRead (c .before .r2 .given .1) in
-    sym (read-stages (a .s .now) ∙ header-read (a .s .now) h ∙ ap answerAt e)
+    sym (no-body (c .before .before .before .before .before .before .before .before .before .args .s .now) (sym (c .before .before .before .before .before .before .before .header .ensures) ∙ ap headerRead (c .before .before .before .before .before .h .given .1)) (sym (c .before .before .before .read-body .ensures) ∙ ap setRead (c .before .r2 .given .1)))
 
 returns-3 : tie.Need-returns-3
-unfolding headerRead endRead answerOf answerAt
+unfolding headerRead headerOf setRead
 returns-3 c =
-    let a = c .before .before .before .before .before .before .before .before .before .args in
-    let h = sym (c .before .before .before .before .before .before .before .header .ensures) ∙ ap headerRead (c .before .before .before .before .before .n .given .1) in
-    let e = sym (c .before .before .before .after-header .ensures) ∙ ap endRead (c .before .end .given .1) in
-    sym (read-stages (a .s .now) ∙ header-read (a .s .now) h ∙ ap answerAt e)
+    read-tested (c .before .before .before .before .before .before .before .before .before .before .args .s .now) (sym (c .before .before .before .before .before .before .before .before .header .ensures) ∙ ap headerRead (c .before .before .before .before .before .before .h .given .1)) (sym (c .before .before .before .before .read-body .ensures) ∙ ap setRead (c .before .before .start .given .1)) (c .test-body .ensures)
 
 pub read-spec : {M : Type 1} → statement M
-read-spec = tie.close (tie.spec header-requires enum-known-r enum-known-n after-header-requires enum-known-r-2 enum-known-end returns returns-2 returns-3)
+read-spec = tie.close (tie.spec header-requires enum-known-r enum-known-h read-body-requires enum-known-r-2 enum-known-start test-body-requires returns returns-2 returns-3)

@@ -5,7 +5,7 @@ use mathlib.Core.Path.{_≡_}
 use mathlib.Core.List.{List}
 use native.Mathlib.Omega.{arith}
 use lib.ListN.{length}
-use Rattle.reader.specs.Syntax.{Objective}
+use Rattle.format.specs.Syntax.{Objective}
 use Rattle.reader.specs.Answers.{inTheory}
 use Rattle.reader.specs.Standing.{RepliesAt}
 use Rattle.routine.proofs.EvaluatedLaws.{found, never-refused}

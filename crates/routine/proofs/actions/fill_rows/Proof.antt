@@ -5,7 +5,7 @@ use mathlib.Core.List.{flatMap}
 use mathlib.Core.Bool.{true}
 use native.Mathlib.Omega.{arith}
 use Rattle.states.specs.Sets.{member}
-use Rattle.reader.specs.Syntax.{Objective, change}
+use Rattle.format.specs.Syntax.{Objective, change}
 use Rattle.reader.specs.Standing.{ObjectiveAt}
 use Rattle.routine.specs.Memory.{write, words}
 use Rattle.routine.specs.Tables.{rows}

@@ -6,8 +6,8 @@ use borrow.Author.Needs.{needs}
 use borrow.Fn.Kinds.{In}
 use borrow.Fn.PlainCycle.{Measures, is, falls, and}
 use denote.Ref.{now}
-use Rattle.reader.specs.Syntax.{Epistemic, known, not-known, all-of, any-of}
-use Rattle.reader.specs.Format.{got, epistemic}
+use Rattle.format.specs.Syntax.{Epistemic, known, not-known, all-of, any-of}
+use Rattle.format.specs.Format.{got, epistemic}
 use Rattle.reader.specs.NodeAnswers.{epistemicNodeRead}
 use Rattle.routine.proofs.ConditionLaws.{AtomAt, PairAt, formula-parts, atom-room, first-formula, second-fits, second-room, first-fits, first-room-all, first-room-any, laid-known, laid-not-known, laid-all-of, laid-any-of}
 use Rattle.routine.proofs.conditions.fill_tests.Reads as self

@@ -6,8 +6,8 @@ use borrow.Author.Needs.{needs}
 use borrow.Fn.Kinds.{In}
 use borrow.Fn.PlainCycle.{Measures, is, falls, and}
 use denote.Ref.{now}
-use Rattle.reader.specs.Syntax.{Epistemic, known, not-known, all-of, any-of}
-use Rattle.reader.specs.Format.{got, epistemic}
+use Rattle.format.specs.Syntax.{Epistemic, known, not-known, all-of, any-of}
+use Rattle.format.specs.Format.{got, epistemic}
 use Rattle.reader.specs.NodeAnswers.{epistemicNodeRead}
 use Rattle.routine.proofs.ConditionLaws.{AtomAt, PairAt, formula-parts, measured-known, measured-not-known, first-formula, second-formula, pair-few, measured-all-of, measured-any-of}
 use Rattle.routine.proofs.conditions.measure.Reads as self

@@ -7,7 +7,7 @@ use borrow.Fn.Kinds.{In}
 use borrow.Fn.PlainCycle.{Measures, is, falls, and}
 use denote.Ref.{now}
 use lib.ListN.{length}
-use Rattle.reader.specs.Syntax.{Program}
+use Rattle.format.specs.Syntax.{Program}
 use Rattle.reader.specs.Standing.{ProgramAt}
 use Rattle.reader.specs.NodeAnswers.{programNodeRead}
 use Rattle.routine.proofs.ProgramLaws.{ActAt, ForkAt, program-parts, laid-end, act-room, act-small, rest-later, rest-room, laid-act, condition-formula, then-fits, then-later, then-room, jump-fits, tests-room, else-later, else-room, skip-fits, jump-small, last-later, last-room, laid-branch}

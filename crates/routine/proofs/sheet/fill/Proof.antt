@@ -1,7 +1,7 @@
 -- `routine::fill` meets its contract: each part is written where PrepareLaws says. Assumes nothing.
 use native.Mathlib.Omega.{arith}
 use borrow.Author.Needs.{needs}
-use Rattle.reader.proofs.SheetLaws.{accepted-length}
+use Rattle.format.proofs.SheetLaws.{accepted-length}
 use Rattle.routine.specs.Memory.{Small}
 use Rattle.routine.specs.Tables.{sheetHeads, nodeCells, setWords, preparedOf}
 use Rattle.reader.specs.declared.formula.View.{View}
@@ -13,8 +13,8 @@ use Rattle.routine.proofs.sheet.fill.Tie as tie
 header-requires : tie.Need-header-requires
 header-requires c κs = search needs
 
-enum-known-n : tie.Need-enum-known-n
-enum-known-n c = search needs
+enum-known-h : tie.Need-enum-known-h
+enum-known-h c = search needs
 
 enum-told : tie.Need-enum-told
 enum-told c = search needs
@@ -24,19 +24,16 @@ returns c =
     let a = c .before .before .before .before .args in
     header-refused (a .s .now) (c .before .before .before .before .pre .sheet) (c .before .before .before .before .pre .read) _ _ (c .before .before .header .ensures) (c .enum-told .given .1)
 
-all-requires : tie.Need-all-requires
-all-requires c κs = search needs
-
 fill-actions-requires : tie.Need-fill-actions-requires
 fill-actions-requires c κs =
     let a = c .before .before .before .before .before .before .before .before .args in
     let sheet = c .before .before .before .before .before .before .before .before .pre .sheet in
     let read = c .before .before .before .before .before .before .before .before .pre .read in
-    let n = c .before .before .before .before .n .given .0 .0 in
-    let count = c .before .before .before .before .n .given .0 .1 .0 in
-    let counts = header-found (a .s .now) sheet read _ n count (c .before .before .before .before .before .before .header .ensures) (c .before .before .before .before .n .given .1) in
-    let space = c .before .before .all .result in
-    (accepted-length (a .s .now) sheet read, actions-room (a .s .now) sheet read n count space (counts .0) (counts .1) (c .before .before .all .ensures))
+    let h = c .before .before .before .before .h .given .0 .0 in
+    let n = h .facts in
+    let counts = header-found (a .s .now) sheet read _ h (c .before .before .before .before .before .before .header .ensures) (c .before .before .before .before .h .given .1) in
+    let space = h .space in
+    (accepted-length (a .s .now) sheet read, actions-room (a .s .now) sheet read h counts)
 
 objective-states-requires : tie.Need-objective-states-requires
 objective-states-requires c κs = search needs
@@ -52,72 +49,72 @@ returns-2 c =
     let a = c .before .before .before .before .before .before .before .before .before .before .before .before .args in
     let sheet = c .before .before .before .before .before .before .before .before .before .before .before .before .pre .sheet in
     let read = c .before .before .before .before .before .before .before .before .before .before .before .before .pre .read in
-    let n = c .before .before .before .before .before .before .before .before .n .given .0 .0 in
-    let count = c .before .before .before .before .before .before .before .before .n .given .0 .1 .0 in
-    let counts = header-found (a .s .now) sheet read _ n count (c .before .before .before .before .before .before .before .before .before .before .header .ensures) (c .before .before .before .before .before .before .before .before .n .given .1) in
-    let space = c .before .before .before .before .before .before .all .result in
+    let h = c .before .before .before .before .before .before .before .before .h .given .0 .0 in
+    let n = h .facts in
+    let counts = header-found (a .s .now) sheet read _ h (c .before .before .before .before .before .before .before .before .before .before .header .ensures) (c .before .before .before .before .before .before .before .before .h .given .1) in
+    let space = h .space in
     let laid = c .before .before .before .fill-actions .result in
-    never-refused (a .s .now) n View.States (laid .at) _ (accepted-length (a .s .now) sheet read) (c .before .before .objective-states .ensures) (c .enum-told2 .given .1) (sheet .start) _ (start-stands (a .s .now) sheet read n count space (counts .0) (counts .1) (c .before .before .before .before .before .before .all .ensures) _ _ _ _ laid (c .before .before .before .fill-actions .ensures))
+    never-refused (a .s .now) n View.States (laid .at) _ (accepted-length (a .s .now) sheet read) (c .before .before .objective-states .ensures) (c .enum-told2 .given .1) (sheet .start) _ (start-stands (a .s .now) sheet read h counts _ _ _ _ laid (c .before .before .before .fill-actions .ensures))
 
 measure-requires : tie.Need-measure-requires
 measure-requires c κs =
     let a = c .before .before .before .before .before .before .before .before .before .before .before .before .before .args in
     let sheet = c .before .before .before .before .before .before .before .before .before .before .before .before .before .pre .sheet in
     let read = c .before .before .before .before .before .before .before .before .before .before .before .before .before .pre .read in
-    let n = c .before .before .before .before .before .before .before .before .before .n .given .0 .0 in
-    let count = c .before .before .before .before .before .before .before .before .before .n .given .0 .1 .0 in
-    let counts = header-found (a .s .now) sheet read _ n count (c .before .before .before .before .before .before .before .before .before .before .before .header .ensures) (c .before .before .before .before .before .before .before .before .before .n .given .1) in
-    let space = c .before .before .before .before .before .before .before .all .result in
+    let h = c .before .before .before .before .before .before .before .before .before .h .given .0 .0 in
+    let n = h .facts in
+    let counts = header-found (a .s .now) sheet read _ h (c .before .before .before .before .before .before .before .before .before .before .before .header .ensures) (c .before .before .before .before .before .before .before .before .before .h .given .1) in
+    let space = h .space in
     let laid = c .before .before .before .before .fill-actions .result in
     let start = c .before .start .given .0 .0 in
     let goal-at = c .before .start .given .0 .1 .0 in
-    let is = found (a .s .now) n View.States (laid .at) _ (accepted-length (a .s .now) sheet read) (c .before .before .before .objective-states .ensures) (c .before .start .given .1) (sheet .start) _ (start-stands (a .s .now) sheet read n count space (counts .0) (counts .1) (c .before .before .before .before .before .before .before .all .ensures) _ _ _ _ laid (c .before .before .before .before .fill-actions .ensures)) in
-    (accepted-length (a .s .now) sheet read, goal-formula (a .s .now) sheet read n count space (counts .0) (counts .1) (c .before .before .before .before .before .before .before .all .ensures) _ _ _ _ laid (c .before .before .before .before .fill-actions .ensures) start goal-at (is .0) (is .1))
+    let is = found (a .s .now) n View.States (laid .at) _ (accepted-length (a .s .now) sheet read) (c .before .before .before .objective-states .ensures) (c .before .start .given .1) (sheet .start) _ (start-stands (a .s .now) sheet read h counts _ _ _ _ laid (c .before .before .before .before .fill-actions .ensures)) in
+    (accepted-length (a .s .now) sheet read, goal-formula (a .s .now) sheet read h counts _ _ _ _ laid (c .before .before .before .before .fill-actions .ensures) start goal-at (is .0) (is .1))
 
 fill-program-requires : tie.Need-fill-program-requires
 fill-program-requires c κs =
     let a = c .before .before .before .before .before .before .before .before .before .before .before .before .before .before .before .before .args in
     let sheet = c .before .before .before .before .before .before .before .before .before .before .before .before .before .before .before .before .pre .sheet in
     let read = c .before .before .before .before .before .before .before .before .before .before .before .before .before .before .before .before .pre .read in
-    let n = c .before .before .before .before .before .before .before .before .before .before .before .before .n .given .0 .0 in
-    let count = c .before .before .before .before .before .before .before .before .before .before .before .before .n .given .0 .1 .0 in
-    let counts = header-found (a .s .now) sheet read _ n count (c .before .before .before .before .before .before .before .before .before .before .before .before .before .before .header .ensures) (c .before .before .before .before .before .before .before .before .before .before .before .before .n .given .1) in
-    let space = c .before .before .before .before .before .before .before .before .before .before .all .result in
+    let h = c .before .before .before .before .before .before .before .before .before .before .before .before .h .given .0 .0 in
+    let n = h .facts in
+    let counts = header-found (a .s .now) sheet read _ h (c .before .before .before .before .before .before .before .before .before .before .before .before .before .before .header .ensures) (c .before .before .before .before .before .before .before .before .before .before .before .before .h .given .1) in
+    let space = h .space in
     let laid = c .before .before .before .before .before .before .before .fill-actions .result in
     let start = c .before .before .before .before .start .given .0 .0 in
     let goal-at = c .before .before .before .before .start .given .0 .1 .0 in
-    let is = found (a .s .now) n View.States (laid .at) _ (accepted-length (a .s .now) sheet read) (c .before .before .before .before .before .before .objective-states .ensures) (c .before .before .before .before .start .given .1) (sheet .start) _ (start-stands (a .s .now) sheet read n count space (counts .0) (counts .1) (c .before .before .before .before .before .before .before .before .before .before .all .ensures) _ _ _ _ laid (c .before .before .before .before .before .before .before .fill-actions .ensures)) in
-    (accepted-length (a .s .now) sheet read, program-room (a .s .now) sheet read n count space (counts .0) (counts .1) (c .before .before .before .before .before .before .before .before .before .before .all .ensures) _ _ _ _ laid (c .before .before .before .before .before .before .before .fill-actions .ensures) start goal-at (is .0) (is .1) (c .before .before .measure .result) (c .before .before .measure .ensures))
+    let is = found (a .s .now) n View.States (laid .at) _ (accepted-length (a .s .now) sheet read) (c .before .before .before .before .before .before .objective-states .ensures) (c .before .before .before .before .start .given .1) (sheet .start) _ (start-stands (a .s .now) sheet read h counts _ _ _ _ laid (c .before .before .before .before .before .before .before .fill-actions .ensures)) in
+    (accepted-length (a .s .now) sheet read, program-room (a .s .now) sheet read h counts _ _ _ _ laid (c .before .before .before .before .before .before .before .fill-actions .ensures) start goal-at (is .0) (is .1) (c .before .before .measure .result) (c .before .before .measure .ensures))
 
 fill-tests-requires : tie.Need-fill-tests-requires
 fill-tests-requires c κs =
     let a = c .before .before .before .before .before .before .before .before .before .before .before .before .before .before .before .before .before .before .before .args in
     let sheet = c .before .before .before .before .before .before .before .before .before .before .before .before .before .before .before .before .before .before .before .pre .sheet in
     let read = c .before .before .before .before .before .before .before .before .before .before .before .before .before .before .before .before .before .before .before .pre .read in
-    let n = c .before .before .before .before .before .before .before .before .before .before .before .before .before .before .before .n .given .0 .0 in
-    let count = c .before .before .before .before .before .before .before .before .before .before .before .before .before .before .before .n .given .0 .1 .0 in
-    let counts = header-found (a .s .now) sheet read _ n count (c .before .before .before .before .before .before .before .before .before .before .before .before .before .before .before .before .before .header .ensures) (c .before .before .before .before .before .before .before .before .before .before .before .before .before .before .before .n .given .1) in
-    let space = c .before .before .before .before .before .before .before .before .before .before .before .before .before .all .result in
+    let h = c .before .before .before .before .before .before .before .before .before .before .before .before .before .before .before .h .given .0 .0 in
+    let n = h .facts in
+    let counts = header-found (a .s .now) sheet read _ h (c .before .before .before .before .before .before .before .before .before .before .before .before .before .before .before .before .before .header .ensures) (c .before .before .before .before .before .before .before .before .before .before .before .before .before .before .before .h .given .1) in
+    let space = h .space in
     let laid = c .before .before .before .before .before .before .before .before .before .before .fill-actions .result in
     let start = c .before .before .before .before .before .before .before .start .given .0 .0 in
     let goal-at = c .before .before .before .before .before .before .before .start .given .0 .1 .0 in
-    let is = found (a .s .now) n View.States (laid .at) _ (accepted-length (a .s .now) sheet read) (c .before .before .before .before .before .before .before .before .before .objective-states .ensures) (c .before .before .before .before .before .before .before .start .given .1) (sheet .start) _ (start-stands (a .s .now) sheet read n count space (counts .0) (counts .1) (c .before .before .before .before .before .before .before .before .before .before .before .before .before .all .ensures) _ _ _ _ laid (c .before .before .before .before .before .before .before .before .before .before .fill-actions .ensures)) in
-    (accepted-length (a .s .now) sheet read, goal-room (a .s .now) sheet read n count space (counts .0) (counts .1) (c .before .before .before .before .before .before .before .before .before .before .before .before .before .all .ensures) _ _ _ _ laid (c .before .before .before .before .before .before .before .before .before .before .fill-actions .ensures) start goal-at (is .0) (is .1) (c .before .before .before .before .before .measure .result) (c .before .before .before .before .before .measure .ensures) _ _ _ (c .before .before .fill-program .result) (c .before .before .fill-program .ensures))
+    let is = found (a .s .now) n View.States (laid .at) _ (accepted-length (a .s .now) sheet read) (c .before .before .before .before .before .before .before .before .before .objective-states .ensures) (c .before .before .before .before .before .before .before .start .given .1) (sheet .start) _ (start-stands (a .s .now) sheet read h counts _ _ _ _ laid (c .before .before .before .before .before .before .before .before .before .before .fill-actions .ensures)) in
+    (accepted-length (a .s .now) sheet read, goal-room (a .s .now) sheet read h counts _ _ _ _ laid (c .before .before .before .before .before .before .before .before .before .before .fill-actions .ensures) start goal-at (is .0) (is .1) (c .before .before .before .before .before .measure .result) (c .before .before .before .before .before .measure .ensures) _ _ _ (c .before .before .fill-program .result) (c .before .before .fill-program .ensures))
 
 add-ends : tie.Need-add-ends
 add-ends c =
     let a = c .before .before .before .before .before .before .before .before .before .before .before .before .before .before .before .before .before .before .before .before .before .before .args in
     let sheet = c .before .before .before .before .before .before .before .before .before .before .before .before .before .before .before .before .before .before .before .before .before .before .pre .sheet in
     let read = c .before .before .before .before .before .before .before .before .before .before .before .before .before .before .before .before .before .before .before .before .before .before .pre .read in
-    let n = c .before .before .before .before .before .before .before .before .before .before .before .before .before .before .before .before .before .before .n .given .0 .0 in
-    let count = c .before .before .before .before .before .before .before .before .before .before .before .before .before .before .before .before .before .before .n .given .0 .1 .0 in
-    let counts = header-found (a .s .now) sheet read _ n count (c .before .before .before .before .before .before .before .before .before .before .before .before .before .before .before .before .before .before .before .before .header .ensures) (c .before .before .before .before .before .before .before .before .before .before .before .before .before .before .before .before .before .before .n .given .1) in
-    let space = c .before .before .before .before .before .before .before .before .before .before .before .before .before .before .before .before .all .result in
+    let h = c .before .before .before .before .before .before .before .before .before .before .before .before .before .before .before .before .before .before .h .given .0 .0 in
+    let n = h .facts in
+    let counts = header-found (a .s .now) sheet read _ h (c .before .before .before .before .before .before .before .before .before .before .before .before .before .before .before .before .before .before .before .before .header .ensures) (c .before .before .before .before .before .before .before .before .before .before .before .before .before .before .before .before .before .before .h .given .1) in
+    let space = h .space in
     let laid = c .before .before .before .before .before .before .before .before .before .before .before .before .before .fill-actions .result in
     let start = c .before .before .before .before .before .before .before .before .before .before .start .given .0 .0 in
     let goal-at = c .before .before .before .before .before .before .before .before .before .before .start .given .0 .1 .0 in
-    let is = found (a .s .now) n View.States (laid .at) _ (accepted-length (a .s .now) sheet read) (c .before .before .before .before .before .before .before .before .before .before .before .before .objective-states .ensures) (c .before .before .before .before .before .before .before .before .before .before .start .given .1) (sheet .start) _ (start-stands (a .s .now) sheet read n count space (counts .0) (counts .1) (c .before .before .before .before .before .before .before .before .before .before .before .before .before .before .before .before .all .ensures) _ _ _ _ laid (c .before .before .before .before .before .before .before .before .before .before .before .before .before .fill-actions .ensures)) in
-    let e = ends-inside (a .s .now) sheet read n count space (counts .0) (counts .1) (c .before .before .before .before .before .before .before .before .before .before .before .before .before .before .before .before .all .ensures) _ _ _ _ laid (c .before .before .before .before .before .before .before .before .before .before .before .before .before .fill-actions .ensures) start goal-at (is .0) (is .1) (c .before .before .before .before .before .before .before .before .measure .result) (c .before .before .before .before .before .before .before .before .measure .ensures) _ _ _ (c .before .before .before .before .before .fill-program .result) (c .before .before .before .before .before .fill-program .ensures) in omega (arith, e)
+    let is = found (a .s .now) n View.States (laid .at) _ (accepted-length (a .s .now) sheet read) (c .before .before .before .before .before .before .before .before .before .before .before .before .objective-states .ensures) (c .before .before .before .before .before .before .before .before .before .before .start .given .1) (sheet .start) _ (start-stands (a .s .now) sheet read h counts _ _ _ _ laid (c .before .before .before .before .before .before .before .before .before .before .before .before .before .fill-actions .ensures)) in
+    let e = ends-inside (a .s .now) sheet read h counts _ _ _ _ laid (c .before .before .before .before .before .before .before .before .before .before .before .before .before .fill-actions .ensures) start goal-at (is .0) (is .1) (c .before .before .before .before .before .before .before .before .measure .result) (c .before .before .before .before .before .before .before .before .measure .ensures) _ _ _ (c .before .before .before .before .before .fill-program .result) (c .before .before .before .before .before .fill-program .ensures) in omega (arith, e)
 
 put-node-requires : tie.Need-put-node-requires
 unfolding Small
@@ -125,30 +122,30 @@ put-node-requires c κs =
     let a = c .before .before .before .before .before .before .before .before .before .before .before .before .before .before .before .before .before .before .before .before .before .before .before .args in
     let sheet = c .before .before .before .before .before .before .before .before .before .before .before .before .before .before .before .before .before .before .before .before .before .before .before .pre .sheet in
     let read = c .before .before .before .before .before .before .before .before .before .before .before .before .before .before .before .before .before .before .before .before .before .before .before .pre .read in
-    let n = c .before .before .before .before .before .before .before .before .before .before .before .before .before .before .before .before .before .before .before .n .given .0 .0 in
-    let count = c .before .before .before .before .before .before .before .before .before .before .before .before .before .before .before .before .before .before .before .n .given .0 .1 .0 in
-    let counts = header-found (a .s .now) sheet read _ n count (c .before .before .before .before .before .before .before .before .before .before .before .before .before .before .before .before .before .before .before .before .before .header .ensures) (c .before .before .before .before .before .before .before .before .before .before .before .before .before .before .before .before .before .before .before .n .given .1) in
-    let space = c .before .before .before .before .before .before .before .before .before .before .before .before .before .before .before .before .before .all .result in
+    let h = c .before .before .before .before .before .before .before .before .before .before .before .before .before .before .before .before .before .before .before .h .given .0 .0 in
+    let n = h .facts in
+    let counts = header-found (a .s .now) sheet read _ h (c .before .before .before .before .before .before .before .before .before .before .before .before .before .before .before .before .before .before .before .before .before .header .ensures) (c .before .before .before .before .before .before .before .before .before .before .before .before .before .before .before .before .before .before .before .h .given .1) in
+    let space = h .space in
     let laid = c .before .before .before .before .before .before .before .before .before .before .before .before .before .before .fill-actions .result in
     let start = c .before .before .before .before .before .before .before .before .before .before .before .start .given .0 .0 in
     let goal-at = c .before .before .before .before .before .before .before .before .before .before .before .start .given .0 .1 .0 in
-    let is = found (a .s .now) n View.States (laid .at) _ (accepted-length (a .s .now) sheet read) (c .before .before .before .before .before .before .before .before .before .before .before .before .before .objective-states .ensures) (c .before .before .before .before .before .before .before .before .before .before .before .start .given .1) (sheet .start) _ (start-stands (a .s .now) sheet read n count space (counts .0) (counts .1) (c .before .before .before .before .before .before .before .before .before .before .before .before .before .before .before .before .before .all .ensures) _ _ _ _ laid (c .before .before .before .before .before .before .before .before .before .before .before .before .before .before .fill-actions .ensures)) in
-    let e = ends-inside (a .s .now) sheet read n count space (counts .0) (counts .1) (c .before .before .before .before .before .before .before .before .before .before .before .before .before .before .before .before .before .all .ensures) _ _ _ _ laid (c .before .before .before .before .before .before .before .before .before .before .before .before .before .before .fill-actions .ensures) start goal-at (is .0) (is .1) (c .before .before .before .before .before .before .before .before .before .measure .result) (c .before .before .before .before .before .before .before .before .before .measure .ensures) _ _ _ (c .before .before .before .before .before .before .fill-program .result) (c .before .before .before .before .before .before .fill-program .ensures) in (omega (arith, e), tt)
+    let is = found (a .s .now) n View.States (laid .at) _ (accepted-length (a .s .now) sheet read) (c .before .before .before .before .before .before .before .before .before .before .before .before .before .objective-states .ensures) (c .before .before .before .before .before .before .before .before .before .before .before .start .given .1) (sheet .start) _ (start-stands (a .s .now) sheet read h counts _ _ _ _ laid (c .before .before .before .before .before .before .before .before .before .before .before .before .before .before .fill-actions .ensures)) in
+    let e = ends-inside (a .s .now) sheet read h counts _ _ _ _ laid (c .before .before .before .before .before .before .before .before .before .before .before .before .before .before .fill-actions .ensures) start goal-at (is .0) (is .1) (c .before .before .before .before .before .before .before .before .before .measure .result) (c .before .before .before .before .before .before .before .before .before .measure .ensures) _ _ _ (c .before .before .before .before .before .before .fill-program .result) (c .before .before .before .before .before .before .fill-program .ensures) in (omega (arith, e), tt)
 
 add-put-node : tie.Need-add-put-node
 add-put-node c =
     let a = c .before .before .before .before .before .before .before .before .before .before .before .before .before .before .before .before .before .before .before .before .before .before .before .before .before .args in
     let sheet = c .before .before .before .before .before .before .before .before .before .before .before .before .before .before .before .before .before .before .before .before .before .before .before .before .before .pre .sheet in
     let read = c .before .before .before .before .before .before .before .before .before .before .before .before .before .before .before .before .before .before .before .before .before .before .before .before .before .pre .read in
-    let n = c .before .before .before .before .before .before .before .before .before .before .before .before .before .before .before .before .before .before .before .before .before .n .given .0 .0 in
-    let count = c .before .before .before .before .before .before .before .before .before .before .before .before .before .before .before .before .before .before .before .before .before .n .given .0 .1 .0 in
-    let counts = header-found (a .s .now) sheet read _ n count (c .before .before .before .before .before .before .before .before .before .before .before .before .before .before .before .before .before .before .before .before .before .before .before .header .ensures) (c .before .before .before .before .before .before .before .before .before .before .before .before .before .before .before .before .before .before .before .before .before .n .given .1) in
-    let space = c .before .before .before .before .before .before .before .before .before .before .before .before .before .before .before .before .before .before .before .all .result in
+    let h = c .before .before .before .before .before .before .before .before .before .before .before .before .before .before .before .before .before .before .before .before .before .h .given .0 .0 in
+    let n = h .facts in
+    let counts = header-found (a .s .now) sheet read _ h (c .before .before .before .before .before .before .before .before .before .before .before .before .before .before .before .before .before .before .before .before .before .before .before .header .ensures) (c .before .before .before .before .before .before .before .before .before .before .before .before .before .before .before .before .before .before .before .before .before .h .given .1) in
+    let space = h .space in
     let laid = c .before .before .before .before .before .before .before .before .before .before .before .before .before .before .before .before .fill-actions .result in
     let start = c .before .before .before .before .before .before .before .before .before .before .before .before .before .start .given .0 .0 in
     let goal-at = c .before .before .before .before .before .before .before .before .before .before .before .before .before .start .given .0 .1 .0 in
-    let is = found (a .s .now) n View.States (laid .at) _ (accepted-length (a .s .now) sheet read) (c .before .before .before .before .before .before .before .before .before .before .before .before .before .before .before .objective-states .ensures) (c .before .before .before .before .before .before .before .before .before .before .before .before .before .start .given .1) (sheet .start) _ (start-stands (a .s .now) sheet read n count space (counts .0) (counts .1) (c .before .before .before .before .before .before .before .before .before .before .before .before .before .before .before .before .before .before .before .all .ensures) _ _ _ _ laid (c .before .before .before .before .before .before .before .before .before .before .before .before .before .before .before .before .fill-actions .ensures)) in
-    let e = ends-inside (a .s .now) sheet read n count space (counts .0) (counts .1) (c .before .before .before .before .before .before .before .before .before .before .before .before .before .before .before .before .before .before .before .all .ensures) _ _ _ _ laid (c .before .before .before .before .before .before .before .before .before .before .before .before .before .before .before .before .fill-actions .ensures) start goal-at (is .0) (is .1) (c .before .before .before .before .before .before .before .before .before .before .before .measure .result) (c .before .before .before .before .before .before .before .before .before .before .before .measure .ensures) _ _ _ (c .before .before .before .before .before .before .before .before .fill-program .result) (c .before .before .before .before .before .before .before .before .fill-program .ensures) in omega (arith, e)
+    let is = found (a .s .now) n View.States (laid .at) _ (accepted-length (a .s .now) sheet read) (c .before .before .before .before .before .before .before .before .before .before .before .before .before .before .before .objective-states .ensures) (c .before .before .before .before .before .before .before .before .before .before .before .before .before .start .given .1) (sheet .start) _ (start-stands (a .s .now) sheet read h counts _ _ _ _ laid (c .before .before .before .before .before .before .before .before .before .before .before .before .before .before .before .before .fill-actions .ensures)) in
+    let e = ends-inside (a .s .now) sheet read h counts _ _ _ _ laid (c .before .before .before .before .before .before .before .before .before .before .before .before .before .before .before .before .fill-actions .ensures) start goal-at (is .0) (is .1) (c .before .before .before .before .before .before .before .before .before .before .before .measure .result) (c .before .before .before .before .before .before .before .before .before .before .before .measure .ensures) _ _ _ (c .before .before .before .before .before .before .before .before .fill-program .result) (c .before .before .before .before .before .before .before .before .fill-program .ensures) in omega (arith, e)
 
 put-node-requires-2 : tie.Need-put-node-requires-2
 unfolding Small
@@ -156,15 +153,15 @@ put-node-requires-2 c κs =
     let a = c .before .before .before .before .before .before .before .before .before .before .before .before .before .before .before .before .before .before .before .before .before .before .before .before .before .args in
     let sheet = c .before .before .before .before .before .before .before .before .before .before .before .before .before .before .before .before .before .before .before .before .before .before .before .before .before .pre .sheet in
     let read = c .before .before .before .before .before .before .before .before .before .before .before .before .before .before .before .before .before .before .before .before .before .before .before .before .before .pre .read in
-    let n = c .before .before .before .before .before .before .before .before .before .before .before .before .before .before .before .before .before .before .before .before .before .n .given .0 .0 in
-    let count = c .before .before .before .before .before .before .before .before .before .before .before .before .before .before .before .before .before .before .before .before .before .n .given .0 .1 .0 in
-    let counts = header-found (a .s .now) sheet read _ n count (c .before .before .before .before .before .before .before .before .before .before .before .before .before .before .before .before .before .before .before .before .before .before .before .header .ensures) (c .before .before .before .before .before .before .before .before .before .before .before .before .before .before .before .before .before .before .before .before .before .n .given .1) in
-    let space = c .before .before .before .before .before .before .before .before .before .before .before .before .before .before .before .before .before .before .before .all .result in
+    let h = c .before .before .before .before .before .before .before .before .before .before .before .before .before .before .before .before .before .before .before .before .before .h .given .0 .0 in
+    let n = h .facts in
+    let counts = header-found (a .s .now) sheet read _ h (c .before .before .before .before .before .before .before .before .before .before .before .before .before .before .before .before .before .before .before .before .before .before .before .header .ensures) (c .before .before .before .before .before .before .before .before .before .before .before .before .before .before .before .before .before .before .before .before .before .h .given .1) in
+    let space = h .space in
     let laid = c .before .before .before .before .before .before .before .before .before .before .before .before .before .before .before .before .fill-actions .result in
     let start = c .before .before .before .before .before .before .before .before .before .before .before .before .before .start .given .0 .0 in
     let goal-at = c .before .before .before .before .before .before .before .before .before .before .before .before .before .start .given .0 .1 .0 in
-    let is = found (a .s .now) n View.States (laid .at) _ (accepted-length (a .s .now) sheet read) (c .before .before .before .before .before .before .before .before .before .before .before .before .before .before .before .objective-states .ensures) (c .before .before .before .before .before .before .before .before .before .before .before .before .before .start .given .1) (sheet .start) _ (start-stands (a .s .now) sheet read n count space (counts .0) (counts .1) (c .before .before .before .before .before .before .before .before .before .before .before .before .before .before .before .before .before .before .before .all .ensures) _ _ _ _ laid (c .before .before .before .before .before .before .before .before .before .before .before .before .before .before .before .before .fill-actions .ensures)) in
-    let e = ends-inside (a .s .now) sheet read n count space (counts .0) (counts .1) (c .before .before .before .before .before .before .before .before .before .before .before .before .before .before .before .before .before .before .before .all .ensures) _ _ _ _ laid (c .before .before .before .before .before .before .before .before .before .before .before .before .before .before .before .before .fill-actions .ensures) start goal-at (is .0) (is .1) (c .before .before .before .before .before .before .before .before .before .before .before .measure .result) (c .before .before .before .before .before .before .before .before .before .before .before .measure .ensures) _ _ _ (c .before .before .before .before .before .before .before .before .fill-program .result) (c .before .before .before .before .before .before .before .before .fill-program .ensures) in (omega (arith, e), tt)
+    let is = found (a .s .now) n View.States (laid .at) _ (accepted-length (a .s .now) sheet read) (c .before .before .before .before .before .before .before .before .before .before .before .before .before .before .before .objective-states .ensures) (c .before .before .before .before .before .before .before .before .before .before .before .before .before .start .given .1) (sheet .start) _ (start-stands (a .s .now) sheet read h counts _ _ _ _ laid (c .before .before .before .before .before .before .before .before .before .before .before .before .before .before .before .before .fill-actions .ensures)) in
+    let e = ends-inside (a .s .now) sheet read h counts _ _ _ _ laid (c .before .before .before .before .before .before .before .before .before .before .before .before .before .before .before .before .fill-actions .ensures) start goal-at (is .0) (is .1) (c .before .before .before .before .before .before .before .before .before .before .before .measure .result) (c .before .before .before .before .before .before .before .before .before .before .before .measure .ensures) _ _ _ (c .before .before .before .before .before .before .before .before .fill-program .result) (c .before .before .before .before .before .before .before .before .fill-program .ensures) in (omega (arith, e), tt)
 
 intersect-requires : tie.Need-intersect-requires
 intersect-requires c κs = search needs
@@ -175,18 +172,18 @@ returns-3 c =
     let a = c .before .before .before .before .before .before .before .before .before .before .before .before .before .before .before .before .before .before .before .before .before .before .before .before .before .before .before .args in
     let sheet = c .before .before .before .before .before .before .before .before .before .before .before .before .before .before .before .before .before .before .before .before .before .before .before .before .before .before .before .pre .sheet in
     let read = c .before .before .before .before .before .before .before .before .before .before .before .before .before .before .before .before .before .before .before .before .before .before .before .before .before .before .before .pre .read in
-    let n = c .before .before .before .before .before .before .before .before .before .before .before .before .before .before .before .before .before .before .before .before .before .before .before .n .given .0 .0 in
-    let count = c .before .before .before .before .before .before .before .before .before .before .before .before .before .before .before .before .before .before .before .before .before .before .before .n .given .0 .1 .0 in
-    let counts = header-found (a .s .now) sheet read _ n count (c .before .before .before .before .before .before .before .before .before .before .before .before .before .before .before .before .before .before .before .before .before .before .before .before .before .header .ensures) (c .before .before .before .before .before .before .before .before .before .before .before .before .before .before .before .before .before .before .before .before .before .before .before .n .given .1) in
-    let space = c .before .before .before .before .before .before .before .before .before .before .before .before .before .before .before .before .before .before .before .before .before .all .result in
+    let h = c .before .before .before .before .before .before .before .before .before .before .before .before .before .before .before .before .before .before .before .before .before .before .before .h .given .0 .0 in
+    let n = h .facts in
+    let counts = header-found (a .s .now) sheet read _ h (c .before .before .before .before .before .before .before .before .before .before .before .before .before .before .before .before .before .before .before .before .before .before .before .before .before .header .ensures) (c .before .before .before .before .before .before .before .before .before .before .before .before .before .before .before .before .before .before .before .before .before .before .before .h .given .1) in
+    let space = h .space in
     let laid = c .before .before .before .before .before .before .before .before .before .before .before .before .before .before .before .before .before .before .fill-actions .result in
     let start = c .before .before .before .before .before .before .before .before .before .before .before .before .before .before .before .start .given .0 .0 in
     let goal-at = c .before .before .before .before .before .before .before .before .before .before .before .before .before .before .before .start .given .0 .1 .0 in
-    let is = found (a .s .now) n View.States (laid .at) _ (accepted-length (a .s .now) sheet read) (c .before .before .before .before .before .before .before .before .before .before .before .before .before .before .before .before .before .objective-states .ensures) (c .before .before .before .before .before .before .before .before .before .before .before .before .before .before .before .start .given .1) (sheet .start) _ (start-stands (a .s .now) sheet read n count space (counts .0) (counts .1) (c .before .before .before .before .before .before .before .before .before .before .before .before .before .before .before .before .before .before .before .before .before .all .ensures) _ _ _ _ laid (c .before .before .before .before .before .before .before .before .before .before .before .before .before .before .before .before .before .before .fill-actions .ensures)) in (
-      start-accepted (a .s .now) sheet read _ (start-filled (a .s .now) sheet read n count space (counts .0) (counts .1) (c .before .before .before .before .before .before .before .before .before .before .before .before .before .before .before .before .before .before .before .before .before .all .ensures) _ _ _ _ laid (c .before .before .before .before .before .before .before .before .before .before .before .before .before .before .before .before .before .before .fill-actions .ensures) start goal-at (is .0) (is .1) _ (c .intersect .ensures)),
-      prepared-accepted (a .s .now) sheet read sheetHeads _ _ (heads-filled (a .s .now) sheet read n count space (counts .0) (counts .1) (c .before .before .before .before .before .before .before .before .before .before .before .before .before .before .before .before .before .before .before .before .before .all .ensures) _ _ _ _ laid (c .before .before .before .before .before .before .before .before .before .before .before .before .before .before .before .before .before .before .fill-actions .ensures)),
-      prepared-accepted (a .s .now) sheet read nodeCells _ _ (nodes-filled (a .s .now) sheet read n count space (counts .0) (counts .1) (c .before .before .before .before .before .before .before .before .before .before .before .before .before .before .before .before .before .before .before .before .before .all .ensures) _ _ _ _ laid (c .before .before .before .before .before .before .before .before .before .before .before .before .before .before .before .before .before .before .fill-actions .ensures) start goal-at (is .0) (is .1) (c .before .before .before .before .before .before .before .before .before .before .before .before .before .measure .result) (c .before .before .before .before .before .before .before .before .before .before .before .before .before .measure .ensures) _ _ _ (c .before .before .before .before .before .before .before .before .before .before .fill-program .result) (c .before .before .before .before .before .before .before .before .before .before .fill-program .ensures) _ _ _ _ (c .before .before .before .before .before .before .before .fill-tests .result) (c .before .before .before .before .before .before .before .fill-tests .ensures) (c .before .before .before .put-node .ensures) (c .before .put-node2 .ensures)),
-      prepared-accepted (a .s .now) sheet read setWords _ _ (sets-filled (a .s .now) sheet read n count space (counts .0) (counts .1) (c .before .before .before .before .before .before .before .before .before .before .before .before .before .before .before .before .before .before .before .before .before .all .ensures) _ _ _ _ laid (c .before .before .before .before .before .before .before .before .before .before .before .before .before .before .before .before .before .before .fill-actions .ensures) start goal-at (is .0) (is .1) (c .before .before .before .before .before .before .before .before .before .before .before .before .before .measure .result) (c .before .before .before .before .before .before .before .before .before .before .before .before .before .measure .ensures) _ _ _ (c .before .before .before .before .before .before .before .before .before .before .fill-program .result) (c .before .before .before .before .before .before .before .before .before .before .fill-program .ensures) _ _ _ _ (c .before .before .before .before .before .before .before .fill-tests .result) (c .before .before .before .before .before .before .before .fill-tests .ensures) (c .before .before .before .put-node .ensures) (c .before .put-node2 .ensures)),
+    let is = found (a .s .now) n View.States (laid .at) _ (accepted-length (a .s .now) sheet read) (c .before .before .before .before .before .before .before .before .before .before .before .before .before .before .before .before .before .objective-states .ensures) (c .before .before .before .before .before .before .before .before .before .before .before .before .before .before .before .start .given .1) (sheet .start) _ (start-stands (a .s .now) sheet read h counts _ _ _ _ laid (c .before .before .before .before .before .before .before .before .before .before .before .before .before .before .before .before .before .before .fill-actions .ensures)) in (
+      start-accepted (a .s .now) sheet read _ (start-filled (a .s .now) sheet read h counts _ _ _ _ laid (c .before .before .before .before .before .before .before .before .before .before .before .before .before .before .before .before .before .before .fill-actions .ensures) start goal-at (is .0) (is .1) _ (c .intersect .ensures)),
+      prepared-accepted (a .s .now) sheet read sheetHeads _ _ (heads-filled (a .s .now) sheet read h counts _ _ _ _ laid (c .before .before .before .before .before .before .before .before .before .before .before .before .before .before .before .before .before .before .fill-actions .ensures)),
+      prepared-accepted (a .s .now) sheet read nodeCells _ _ (nodes-filled (a .s .now) sheet read h counts _ _ _ _ laid (c .before .before .before .before .before .before .before .before .before .before .before .before .before .before .before .before .before .before .fill-actions .ensures) start goal-at (is .0) (is .1) (c .before .before .before .before .before .before .before .before .before .before .before .before .before .measure .result) (c .before .before .before .before .before .before .before .before .before .before .before .before .before .measure .ensures) _ _ _ (c .before .before .before .before .before .before .before .before .before .before .fill-program .result) (c .before .before .before .before .before .before .before .before .before .before .fill-program .ensures) _ _ _ _ (c .before .before .before .before .before .before .before .fill-tests .result) (c .before .before .before .before .before .before .before .fill-tests .ensures) (c .before .before .before .put-node .ensures) (c .before .put-node2 .ensures)),
+      prepared-accepted (a .s .now) sheet read setWords _ _ (sets-filled (a .s .now) sheet read h counts _ _ _ _ laid (c .before .before .before .before .before .before .before .before .before .before .before .before .before .before .before .before .before .before .fill-actions .ensures) start goal-at (is .0) (is .1) (c .before .before .before .before .before .before .before .before .before .before .before .before .before .measure .result) (c .before .before .before .before .before .before .before .before .before .before .before .before .before .measure .ensures) _ _ _ (c .before .before .before .before .before .before .before .before .before .before .fill-program .result) (c .before .before .before .before .before .before .before .before .before .before .fill-program .ensures) _ _ _ _ (c .before .before .before .before .before .before .before .fill-tests .result) (c .before .before .before .before .before .before .before .fill-tests .ensures) (c .before .before .before .put-node .ensures) (c .before .put-node2 .ensures)),
     )
 
 pub fill-spec : {M : Type 1} → statement M
@@ -194,10 +191,9 @@ fill-spec =
     tie.close
     (tie.spec
     header-requires
-    enum-known-n
+    enum-known-h
     enum-told
     returns
-    all-requires
     fill-actions-requires
     objective-states-requires
     enum-known-start

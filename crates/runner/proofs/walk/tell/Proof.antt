@@ -5,7 +5,7 @@ use mathlib.Core.List.{List}
 use lib.ListN.{replicate, length-replicate}
 use denote.Ref.{now}
 use borrow.Author.Needs.{needs}
-use Rattle.reader.specs.Format.{reading}
+use Rattle.format.specs.Format.{reading}
 use Rattle.routine.specs.Tables.{preparedOf}
 use Rattle.runner.specs.declared.walk.Stand.{Stand}
 use Rattle.runner.specs.Records.{resumed, nextOf}

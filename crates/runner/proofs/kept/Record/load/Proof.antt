@@ -4,7 +4,7 @@ use lib.ListN.{length, replicate}
 use denote.Ref.{now}
 use borrow.Author.Needs.{needs}
 use Rattle.reader.specs.declared.sheet.Answer.{Answer}
-use Rattle.reader.specs.Format.{reading}
+use Rattle.format.specs.Format.{reading}
 use Rattle.reader.specs.Answers.{answerOf, withoutValue}
 use Rattle.runner.proofs.RecordLaws.{accepted-fits, loaded-accepted, loaded-refused}
 use Rattle.runner.proofs.kept.Record.load.Statement.{statement}

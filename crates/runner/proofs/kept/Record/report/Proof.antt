@@ -7,7 +7,7 @@ use lib.ListN.{length}
 use lib.Seq.{length-take-le}
 use borrow.Author.Needs.{needs}
 use borrow.Author.Tests.{not-true, not-false}
-use Rattle.reader.specs.Format.{accepted}
+use Rattle.format.specs.Format.{accepted}
 use Rattle.reader.specs.Answers.{withoutValue}
 use Rattle.runner.specs.Records.{isPadded, reportOn}
 use Rattle.runner.specs.Answers.{reportedOf}

@@ -5,8 +5,8 @@ use Prim.Native.Nat.{ℕ}
 use mathlib.Core.List.{List, [], _∷_, _++_}
 use mathlib.Core.Path.{_≡_, refl}
 use lib.ListN.{replicate}
-use Rattle.reader.specs.Syntax.{top, fact, negation, known, any-of, end, act, probe}
-use Rattle.reader.specs.Format.{accepted, refused, reading}
+use Rattle.format.specs.Syntax.{top, fact, negation, known, any-of, end, act, probe}
+use Rattle.format.specs.Format.{accepted, refused, reading}
 
 -- A row: the bytes, and the number of their refusal.
 pub record Row : Type 0 where

@@ -1,18 +1,19 @@
 -- Laws of states, of replies, and of what a theory leaves free. Assumes nothing.
-use Prim.Native.Nat.{ℕ, _<_, _≤_, _^_}
+use Prim.Native.Nat.{ℕ, zero, suc, _+_, _<_, _≤_, _^_}
 use mathlib.Core.Path.{_≡_, refl, ap}
-use mathlib.Core.List.{List·Memᴰ}
+use mathlib.Core.List.{[], List·Memᴰ}
 use mathlib.Core.Bool.{true, not, _||_}
 use native.Mathlib.Omega.{arith}
 use native.Mathlib.Decide.{decLt}
+use lib.Dec.{ltb}
 use lib.Pow.{pow-mono}
 use lib.ListN.{length, List·getD-eq-default}
-use borrow.Author.Tests.{eqb-true, eq-eqb, ltb-true}
-use Rattle.lists.specs.Lists.{below, Sorted}
+use borrow.Author.Tests.{eqb-true, eq-eqb, ltb-true, le-ltb}
+use Rattle.lists.specs.Lists.{if_then_else_, upFrom, below, keep, Sorted}
 use Rattle.lists.proofs.ListLaws.{not-both, or-left, or-right, keep-mem, mem-keep, mem-upFrom}
 use Rattle.lists.proofs.OrderLaws.{sorted-keep, sorted-upFrom}
-use Rattle.reader.specs.Syntax.{Objective, bottom, top, fact, new-fact, negation, conjunction, disjunction, equivalence, Action, change, probe, replyCount, Sheet}
-use Rattle.reader.specs.Truth.{isState, states, factIn, truth, holds, mentionsNew, moves, answers}
+use Rattle.format.specs.Syntax.{Objective, bottom, top, fact, new-fact, negation, conjunction, disjunction, equivalence, Action, change, probe, replyCount, Sheet}
+use Rattle.format.specs.Truth.{inSpace, spaceOf, isState, states, factIn, truth, holds, mentionsNew, moves, answers}
 
 module _ (sheet : Sheet) where
   -- A state is below 2^n.
@@ -26,16 +27,37 @@ module _ (sheet : Sheet) where
 
   -- The listed states are the states, and are in order.
   pub listed-state : {s : ℕ} → List·Memᴰ s (states sheet) → isState sheet s ≡ true
-  unfolding states
-  listed-state m = (keep-mem (isState sheet) (below (2 ^ sheet .facts)) m) .1
+  unfolding states isState
+  listed-state m = (keep-mem (inSpace (sheet .facts)) (below (2 ^ sheet .facts)) m) .1
 
   pub state-listed : (s : ℕ) → isState sheet s ≡ true → List·Memᴰ s (states sheet)
-  unfolding states
-  state-listed s e = mem-keep (isState sheet) (below (2 ^ sheet .facts)) (mem-upFrom 0 (2 ^ sheet .facts) s (omega arith) (omega (arith, state-below s e))) e
+  unfolding states isState
+  state-listed s e = mem-keep (inSpace (sheet .facts)) (below (2 ^ sheet .facts)) (mem-upFrom 0 (2 ^ sheet .facts) s (omega arith) (omega (arith, state-below s e))) e
 
   pub states-sorted : Sorted _<_ (states sheet)
   unfolding states
-  states-sorted = sorted-keep _<_ (isState sheet) (below (2 ^ sheet .facts)) (sorted-upFrom 0 (2 ^ sheet .facts))
+  states-sorted = sorted-keep _<_ (inSpace (sheet .facts)) (below (2 ^ sheet .facts)) (sorted-upFrom 0 (2 ^ sheet .facts))
+
+-- Past a bound no number is kept that is to be below it.
+keep-none : (m a j : ℕ) → m ≤ a → keep (λ s. ltb s m) (upFrom a j) ≡ []
+unfolding keep upFrom if_then_else_
+keep-none m a zero h = refl
+keep-none m a (suc j) h = rw (le-ltb a m h) (keep-none m (suc a) j (omega arith))
+
+keep-below : (m a k w : ℕ) → k ≤ w → m ≤ a + k → keep (λ s. ltb s m) (upFrom a w) ≡ keep (λ s. ltb s m) (upFrom a k)
+unfolding keep upFrom if_then_else_
+keep-below m a zero w l h = keep-none m a w (omega arith)
+keep-below m a (suc k) zero l h = absurd (omega arith)
+keep-below m a (suc k) (suc w) l h = rw (keep-below m (suc a) k w (omega arith) (omega arith))
+
+-- The states over at most 8 facts, among the bytes.
+pub space-bytes : (n : ℕ) → n ≤ 8 → keep (inSpace n) (below 256) ≡ spaceOf n
+unfolding spaceOf inSpace
+space-bytes n few = let h : 2 ^ n ≤ 2 ^ 8 = pow-mono few in keep-below (2 ^ n) 0 (2 ^ n) 256 h (omega arith)
+
+pub states-bytes : (sheet : Sheet) → sheet .facts ≤ 8 → keep (isState sheet) (below 256) ≡ states sheet
+unfolding states isState
+states-bytes sheet few = space-bytes (sheet .facts) few
 
 -- A reply that an action gives is one of its replies.
 pub answer-exists : (a : Action) (r t : ℕ) → answers a r t ≡ true → r < replyCount a

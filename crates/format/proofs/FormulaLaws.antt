@@ -6,9 +6,9 @@ use mathlib.Core.Bool.{Bool, false}
 use native.Mathlib.Omega.{arith}
 use lib.Dec.{ltb, eqb}
 use lib.ListN.{length}
-use Rattle.reader.specs.Syntax.{Objective, bottom, top, fact, new-fact, negation, conjunction, disjunction, equivalence, Epistemic, known, not-known, all-of, any-of}
-use Rattle.reader.specs.Format.{got, Reader, _>>=_, give, field, factNumber, objectiveBehind, objective, epistemicBehind, epistemic}
-use Rattle.reader.proofs.FormatLaws.{Finds, finds-give, finds-refuse, finds-if, finds-check, finds-behind, Keeps, keeps-if, keeps-refuse, keeps-behind, keeps-levels, finds-field}
+use Rattle.format.specs.Syntax.{Objective, bottom, top, fact, new-fact, negation, conjunction, disjunction, equivalence, Epistemic, known, not-known, all-of, any-of}
+use Rattle.format.specs.Format.{got, Reader, _>>=_, give, field, factNumber, objectiveBehind, objective, EpistemicHead, known-head, not-known-head, all-of-head, any-of-head, epistemicHead, epistemicBehind, epistemic}
+use Rattle.format.proofs.FormatLaws.{Finds, finds-give, finds-refuse, finds-if, finds-check, finds-behind, Keeps, keeps-if, keeps-refuse, keeps-behind, keeps-levels, finds-field}
 
 -- What is read alike is kept.
 kept : {A : Type 0} (m : Reader A) → Keeps m m
@@ -45,20 +45,19 @@ pub objective-levels : (n : ℕ) (theory : Bool) (d d′ : ℕ) → d ≤ d′ �
 objective-levels n theory = keeps-levels (objective n theory) (objective-more n theory)
 
 -- One level of an epistemic formula, whose parts other readers keep.
-epistemic-behind-keeps : (inside inside′ : Reader Objective) (part part′ : Reader Epistemic) → Keeps inside inside′ → Keeps part part′ → (tag : ℕ)
-    → Keeps (epistemicBehind inside part tag) (epistemicBehind inside′ part′ tag)
+epistemic-behind-keeps : (inside inside′ : Reader Objective) (part part′ : Reader Epistemic) → Keeps inside inside′ → Keeps part part′ → (h : EpistemicHead)
+    → Keeps (epistemicBehind inside part h) (epistemicBehind inside′ part′ h)
 unfolding epistemicBehind
-epistemic-behind-keeps inside inside′ part part′ within keeps tag =
-    keeps-if (eqb tag 0) _ _ _ _ (keeps-behind inside inside′ _ _ within (λ f. kept (give (known f))))
-    (keeps-if (eqb tag 1) _ _ _ _ (keeps-behind inside inside′ _ _ within (λ f. kept (give (not-known f))))
-    (keeps-if (eqb tag 2) _ _ _ _ (both-keeps part part′ all-of keeps)
-    (both-keeps part part′ any-of keeps)))
+epistemic-behind-keeps inside inside′ part part′ within keeps known-head = keeps-behind inside inside′ _ _ within (λ f. kept (give (known f)))
+epistemic-behind-keeps inside inside′ part part′ within keeps not-known-head = keeps-behind inside inside′ _ _ within (λ f. kept (give (not-known f)))
+epistemic-behind-keeps inside inside′ part part′ within keeps all-of-head = both-keeps part part′ all-of keeps
+epistemic-behind-keeps inside inside′ part part′ within keeps any-of-head = both-keeps part part′ any-of keeps
 
 epistemic-more : (n d : ℕ) → Keeps (epistemic n d) (epistemic n (suc d))
 unfolding epistemic
 epistemic-more n zero = keeps-refuse 8 (epistemic n 1)
 epistemic-more n (suc d) =
-    keeps-behind (field 2) (field 2) _ _ (kept (field 2))
+    keeps-behind epistemicHead epistemicHead _ _ (kept epistemicHead)
     (epistemic-behind-keeps (objective n false d) (objective n false (suc d)) (epistemic n d) (epistemic n (suc d)) (objective-more n false d) (epistemic-more n d))
 
 -- An epistemic formula that is read is read alike with more levels.

@@ -10,10 +10,10 @@ use lib.ListN.{length, getD, List·getD-eq-default}
 use borrow.Author.Tests.{leb-true, ltb-true, ltb-false}
 use Rattle.lists.specs.Lists.{if_then_else_}
 use Rattle.lists.proofs.ListLaws.{not-both, both-true, mem-flat}
-use Rattle.reader.specs.Syntax.{Objective, bottom, top, fact, new-fact, negation, conjunction, disjunction, equivalence, Epistemic, known, not-known, all-of, any-of, Program, end, act, branch, Action, change, probe, replyCount, actionNodes, branchNodes, Sheet, actionOf}
-use Rattle.reader.specs.Truth.{truth, holds}
-use Rattle.reader.specs.Format.{Answer, accepted, refused, Read, got, fault, Reader, _>>=_, give, check, field, factNumber, objectiveBehind, objective, epistemicBehind, epistemic, objectives, actionBehind, action, actionList, ProgramRead, programBehind, programWithin, isEdition, sheetFields, isPadding, hasStart, leadsOn, hasReply, unless, faults, decided, afterFields, reading}
-use Rattle.reader.proofs.FormatLaws.{Gives, gives-give, gives-refuse, gives-if, gives-check, gives-behind, gives-any, field-below, NumbersBelow, Counts, program-counts}
+use Rattle.format.specs.Syntax.{Objective, bottom, top, fact, new-fact, negation, conjunction, disjunction, equivalence, Epistemic, known, not-known, all-of, any-of, Program, end, act, branch, Action, change, probe, replyCount, actionNodes, branchNodes, Sheet, actionOf}
+use Rattle.format.specs.Truth.{states, truth, holds}
+use Rattle.format.specs.Format.{Answer, accepted, refused, Read, got, fault, Reader, andThen, _>>=_, give, check, field, factNumber, objectiveBehind, objective, EpistemicHead, known-head, not-known-head, all-of-head, any-of-head, epistemicHead, epistemicBehind, epistemic, objectives, Kind, changes, probes, kind, replyNumber, theory, replies, actionBehind, action, actionList, ProgramRead, ProgramHead, end-head, act-head, branch-head, programHead, programBehind, programWithin, levels, program, isEdition, Header, header, body, sheetFields, isPadding, hasStart, leadsOn, hasReply, unless, actionFaults, faults, decided, afterFields, ofSheet, reading}
+use Rattle.format.proofs.FormatLaws.{Gives, gives-give, gives-refuse, gives-if, gives-check, gives-behind, gives-any, field-below, NumbersBelow, Counts, program-counts}
 
 -- A property of every member of a list whose first element and whose rest have it.
 mem-more : {A : Type 0} (P : A → Type 0) (x : A) (xs : List A) → P x → ((a : A) → List·Memᴰ a xs → P a) → (a : A) → List·Memᴰ a (x ∷ xs) → P a
@@ -36,19 +36,26 @@ objectives-long n (suc m) =
 abbrev pub FewReplies : Action → Type 0
 FewReplies a = (1 ≤ replyCount a) × (replyCount a ≤ 8)
 
-behind-few : (n kind : ℕ) → Gives FewReplies (actionBehind n kind)
-unfolding actionBehind replyCount
-behind-few n kind =
-    gives-if FewReplies (eqb kind 0) _ _
-    (gives-any FewReplies (objective n true 16) _ (λ f. gives-give FewReplies (change f) (omega arith, omega arith)))
-    (gives-any FewReplies (field 4) _ (λ m. gives-check FewReplies (leb 1 m && leb m 8) 5 _ (λ t.
-    gives-behind (Long m) FewReplies (objectives n m) _ (objectives-long n m) (λ fs l.
+-- A reply count is 1 to 8.
+pub count-few : Gives (λ m. (1 ≤ m) × (m ≤ 8)) replyNumber
+unfolding replyNumber
+count-few =
+    gives-any (λ m. (1 ≤ m) × (m ≤ 8)) (field 4) _ (λ m. gives-check (λ i. (1 ≤ i) × (i ≤ 8)) (leb 1 m && leb m 8) 5 _ (λ t.
     let u = both-true (leb 1 m) (leb m 8) t in
-    gives-give FewReplies (probe fs) (omega (arith, leb-true 1 m (u .0)), omega (arith, leb-true m 8 (u .1)))))))
+    gives-give (λ i. (1 ≤ i) × (i ≤ 8)) m (leb-true 1 m (u .0), leb-true m 8 (u .1))))
+
+behind-few : (n : ℕ) (h : Kind) → Gives FewReplies (actionBehind n h)
+unfolding actionBehind replies replyCount
+behind-few n changes = gives-any FewReplies (theory n) _ (λ f. gives-give FewReplies (change f) (omega arith, omega arith))
+behind-few n probes =
+    gives-behind (λ fs. (1 ≤ length fs) × (length fs ≤ 8)) FewReplies (replies n) _ many (λ fs l. gives-give FewReplies (probe fs) l)
+  where
+    many : Gives (λ fs. (1 ≤ length fs) × (length fs ≤ 8)) (replies n)
+    many = gives-behind (λ m. (1 ≤ m) × (m ≤ 8)) (λ fs. (1 ≤ length fs) × (length fs ≤ 8)) replyNumber _ count-few (λ m few s p fs q e. let l = objectives-long n m s p fs q e in (omega (arith, few .0, l), omega (arith, few .1, l)))
 
 action-few : (n : ℕ) → Gives FewReplies (action n)
 unfolding action
-action-few n = gives-any FewReplies (field 1) _ (behind-few n)
+action-few n = gives-any FewReplies kind _ (behind-few n)
 
 -- There are k actions, each with 1 to 8 replies.
 abbrev pub Listed : ℕ → List Action → Type 0
@@ -74,43 +81,46 @@ pub record Shape (sheet : Sheet) : Type 0 where
   pub branches-most : branchNodes (sheet .program) ≤ 63
   pub numbers : NumbersBelow (length (sheet .actions)) (sheet .program)
 
--- The fields of a sheet, where the program is read by any reader that counts.
-abbrev pub fieldsWith : (programOf : (n k : ℕ) → Reader ProgramRead) → Reader Sheet
-fieldsWith programOf = do
-  edition ← field 4
-  check (isEdition edition) 3 do
-    n ← field 4
-    check (leb 1 n && leb n 8) 4 do
-      k ← field 5
-      actions ← actionList n k
-      start ← objective n false 16
-      goal ← epistemic n 16
-      counted ← programOf n k
-      give (record { facts = n; actions = actions; start = start; goal = goal; program = counted .program })
+-- A header has 1 to 8 facts and at most 31 actions.
+pub record HeaderShape (h : Header) : Type 0 where
+  pub facts-some : 1 ≤ h .facts
+  pub facts-most : h .facts ≤ 8
+  pub actions-most : h .actions ≤ 31
 
-with-shape : (programOf : (n k : ℕ) → Reader ProgramRead) → ((n k : ℕ) → Gives (Counts k 0 0) (programOf n k)) → Gives Shape (fieldsWith programOf)
-with-shape programOf counts =
-    gives-any Shape (field 4) _ (λ edition. gives-check Shape (isEdition edition) 3 _ (λ t.
-    gives-any Shape (field 4) _ (λ n. gives-check Shape (leb 1 n && leb n 8) 4 _ (λ u.
-    gives-behind (λ k. k < 32) Shape (field 5) _ (field-below 5) (λ k few.
-    gives-behind (Listed k) Shape (actionList n k) _ (list-few n k) (λ actions l.
-    gives-any Shape (objective n false 16) _ (λ start.
-    gives-any Shape (epistemic n 16) _ (λ goal.
-    gives-behind (Counts k 0 0) Shape (programOf n k) _ (counts n k) (λ c h.
+pub header-shape : Gives HeaderShape header
+unfolding header
+header-shape =
+    gives-any HeaderShape (field 4) _ (λ edition. gives-check HeaderShape (isEdition edition) 3 _ (λ t.
+    gives-any HeaderShape (field 4) _ (λ n. gives-check HeaderShape (leb 1 n && leb n 8) 4 _ (λ u.
+    gives-behind (λ k. k < 32) HeaderShape (field 5) _ (field-below 5) (λ k few.
     let v = both-true (leb 1 n) (leb n 8) u in
-    gives-give Shape _ (record {
-      facts-some = leb-true 1 n (v .0);
-      facts-most = leb-true n 8 (v .1);
-      actions-most = omega arith;
-      replies-few = l .1;
-      acts-most = omega (arith, h .acts-within (omega arith));
-      branches-most = omega (arith, h .branches-within (omega arith));
-      numbers = rw (l .0) (h .numbers);
-    }))))))))))
+    gives-give HeaderShape _ (record { facts-some = leb-true 1 n (v .0); facts-most = leb-true n 8 (v .1); actions-most = omega arith }))))))
+
+-- A program with all its levels.
+pub program-is : (n k : ℕ) (s : List ℕ) (p : ℕ) → program n k s p ≡ programWithin n k levels 0 0 s p
+unfolding program
+program-is n k s p = refl
+
+program-shape : (n k : ℕ) → Gives (Counts k 0 0) (program n k)
+unfolding program
+program-shape n k = program-counts n k levels 0 0
 
 fields-shape : Gives Shape sheetFields
-unfolding sheetFields
-fields-shape = with-shape (λ n k. programWithin n k 128 0 0) (λ n k. program-counts n k 128 0 0)
+fields-shape =
+    gives-behind HeaderShape Shape header body header-shape (λ h limits.
+    gives-behind (Listed (h .actions)) Shape (actionList (h .facts) (h .actions)) _ (list-few (h .facts) (h .actions)) (λ actions l.
+    gives-any Shape (objective (h .facts) false 16) _ (λ start.
+    gives-any Shape (epistemic (h .facts) 16) _ (λ goal.
+    gives-behind (Counts (h .actions) 0 0) Shape (program (h .facts) (h .actions)) _ (program-shape (h .facts) (h .actions)) (λ c i.
+    gives-give Shape _ (record {
+      facts-some = limits .facts-some;
+      facts-most = limits .facts-most;
+      actions-most = omega (arith, limits .actions-most, l .0);
+      replies-few = l .1;
+      acts-most = omega (arith, i .acts-counted, i .acts-within (omega arith));
+      branches-most = omega (arith, i .branches-counted, i .branches-within (omega arith));
+      numbers = rw (l .0) (i .numbers);
+    }))))))
 
 -- How bytes are accepted: they are few enough, the fields give the sheet, and none of the tests after them fails.
 pub record Accepted (bytes : List ℕ) (sheet : Sheet) : Type 0 where
@@ -121,19 +131,58 @@ pub record Accepted (bytes : List ℕ) (sheet : Sheet) : Type 0 where
 
 -- Accepted bytes are accepted so.
 pub accepted-how : (bytes : List ℕ) (sheet : Sheet) → reading bytes ≡ accepted sheet → Accepted bytes sheet
-unfolding reading afterFields decided if_then_else_
+unfolding reading ofSheet afterFields decided if_then_else_
 accepted-how bytes sheet e = go (leb (length bytes) 1024) refl (sheetFields bytes 0) refl e
   where
     last : (x : Sheet) (p : ℕ) (rs : List ℕ) → faults bytes p x ≡ rs → decided rs x ≡ accepted sheet → (x ≡ sheet) × (faults bytes p x ≡ [])
     last x p [] h k = (cc, h)
     last x p (r ∷ rs) h k = let z : _≡_ {A = ℕ} 0 1 = cc in absurd (omega arith)
 
-    go : (b : Bool) → leb (length bytes) 1024 ≡ b → (r : Read Sheet) → sheetFields bytes 0 ≡ r → _≡_ {A = Answer Sheet} (if b then afterFields bytes r else refused 1) (accepted sheet) → Accepted bytes sheet
+    go : (b : Bool) → leb (length bytes) 1024 ≡ b → (r : Read Sheet) → sheetFields bytes 0 ≡ r → afterFields bytes (if b then r else fault 1) ≡ accepted sheet → Accepted bytes sheet
     go false l r f k = let z : _≡_ {A = ℕ} 0 1 = cc in absurd (omega arith)
     go true l (fault r) f k = let z : _≡_ {A = ℕ} 0 1 = cc in absurd (omega arith)
     go true l (got x p) f k =
         let w = last x p (faults bytes p x) refl k in
         subst (Accepted bytes) (w .0) (record { short = leb-true (length bytes) 1024 l; position = p; fields = f; faultless = w .1 })
+
+-- What the bytes are, by the header and the fields behind it.
+module _ (bytes : List ℕ) where
+  -- A header that is refused.
+  pub reading-refused : {r : ℕ} → ofSheet header bytes 0 ≡ fault r → reading bytes ≡ refused r
+  unfolding reading ofSheet afterFields if_then_else_ _>>=_ andThen
+  reading-refused {r} e = go (leb (length bytes) 1024) e
+    where
+      go : (b : Bool) → _≡_ {A = Read Header} (if b then header bytes 0 else fault 1) (fault r) → afterFields bytes (if b then andThen (header bytes 0) (λ h q. body h bytes q) else fault 1) ≡ refused r
+      go true j = rw j
+      go false j = let z : 1 ≡ r = cc in ap refused z
+
+  module _ {h : Header} {p : ℕ} (e : ofSheet header bytes 0 ≡ got h p) where
+    -- One that is read: the sheet is short enough,
+    pub header-short : length bytes ≤ 1024
+    unfolding ofSheet if_then_else_
+    header-short = go (leb (length bytes) 1024) refl e
+      where
+        go : (b : Bool) → leb (length bytes) 1024 ≡ b → _≡_ {A = Read Header} (if b then header bytes 0 else fault 1) (got h p) → length bytes ≤ 1024
+        go true l j = leb-true (length bytes) 1024 l
+        go false l j = let z : _≡_ {A = ℕ} 0 1 = cc in absurd (omega arith)
+
+    -- keeps the header's limits,
+    pub header-limits : HeaderShape h
+    unfolding ofSheet if_then_else_
+    header-limits = go (leb (length bytes) 1024) e
+      where
+        go : (b : Bool) → _≡_ {A = Read Header} (if b then header bytes 0 else fault 1) (got h p) → HeaderShape h
+        go true j = header-shape bytes 0 h p j
+        go false j = let z : _≡_ {A = ℕ} 0 1 = cc in absurd (omega arith)
+
+    -- and is what the fields behind it make it.
+    pub reading-body : reading bytes ≡ afterFields bytes (body h bytes p)
+    unfolding reading ofSheet if_then_else_ _>>=_ andThen
+    reading-body = go (leb (length bytes) 1024) e
+      where
+        go : (b : Bool) → _≡_ {A = Read Header} (if b then header bytes 0 else fault 1) (got h p) → afterFields bytes (if b then andThen (header bytes 0) (λ h q. body h bytes q) else fault 1) ≡ afterFields bytes (body h bytes p)
+        go true j = rw j
+        go false j = let z : _≡_ {A = ℕ} 0 1 = cc in absurd (omega arith)
 
 -- Accepted bytes are at most 1,024.
 pub accepted-length : (bytes : List ℕ) (sheet : Sheet) → reading bytes ≡ accepted sheet → length bytes ≤ 1024
@@ -145,9 +194,9 @@ accepted-shape bytes sheet e = let how = accepted-how bytes sheet e in fields-sh
 
 -- What the tests after the fields tell: there is a start state, and in each state each action has a next state and a reply.
 pub record Passed (sheet : Sheet) : Type 0 where
-  pub start : hasStart sheet ≡ true
-  pub leads : (a : Action) → List·Memᴰ a (sheet .actions) → leadsOn sheet a ≡ true
-  pub answered : (a : Action) → List·Memᴰ a (sheet .actions) → hasReply sheet a ≡ true
+  pub start : hasStart (states sheet) (sheet .start) ≡ true
+  pub leads : (a : Action) → List·Memᴰ a (sheet .actions) → leadsOn (states sheet) a ≡ true
+  pub answered : (a : Action) → List·Memᴰ a (sheet .actions) → hasReply (states sheet) a ≡ true
 
 -- A test whose number isn't there has passed.
 passed-unless : (b : Bool) (r : ℕ) → (List·Memᴰ r (unless b r) → ⊥) → b ≡ true
@@ -160,15 +209,15 @@ pub accepted-padding : (bytes : List ℕ) (sheet : Sheet) (how : Accepted bytes 
 unfolding faults
 accepted-padding bytes sheet how =
     passed-unless (isPadding bytes (how .position)) 12 (λ m.
-    List·Memᴰ·not-nil (subst (λ (rs : List ℕ). List·Memᴰ 12 rs) (how .faultless) (Memᴰ·append-left _ (Memᴰ·append-left (unless (hasStart sheet) 13) m))))
+    List·Memᴰ·not-nil (subst (λ (rs : List ℕ). List·Memᴰ 12 rs) (how .faultless) (Memᴰ·append-left _ (Memᴰ·append-left (unless (hasStart (states sheet) (sheet .start)) 13) m))))
 
 -- An accepted sheet has passed the tests.
 pub accepted-passed : (bytes : List ℕ) (sheet : Sheet) → reading bytes ≡ accepted sheet → Passed sheet
-unfolding faults
+unfolding faults actionFaults
 accepted-passed bytes sheet e = record {
-  start = passed-unless (hasStart sheet) 13 (λ m. none (Memᴰ·append-left (flatMap each (sheet .actions)) (Memᴰ·append-right padding m)));
-  leads = λ a i. passed-unless (leadsOn sheet a) 14 (λ m. none-of i (Memᴰ·append-left (unless (hasReply sheet a) 15) m));
-  answered = λ a i. passed-unless (hasReply sheet a) 15 (λ m. none-of i (Memᴰ·append-right (unless (leadsOn sheet a) 14) m));
+  start = passed-unless (hasStart (states sheet) (sheet .start)) 13 (λ m. none (Memᴰ·append-left (flatMap each (sheet .actions)) (Memᴰ·append-right padding m)));
+  leads = λ a i. passed-unless (leadsOn (states sheet) a) 14 (λ m. none-of i (Memᴰ·append-left (unless (hasReply (states sheet) a) 15) m));
+  answered = λ a i. passed-unless (hasReply (states sheet) a) 15 (λ m. none-of i (Memᴰ·append-right (unless (leadsOn (states sheet) a) 14) m));
 }
   where
     how : Accepted bytes sheet
@@ -178,13 +227,13 @@ accepted-passed bytes sheet e = record {
     padding = unless (isPadding bytes (how .position)) 12
 
     each : Action → List ℕ
-    each a = unless (leadsOn sheet a) 14 ++ unless (hasReply sheet a) 15
+    each a = unless (leadsOn (states sheet) a) 14 ++ unless (hasReply (states sheet) a) 15
 
-    none : {r : ℕ} → List·Memᴰ r (padding ++ unless (hasStart sheet) 13 ++ flatMap each (sheet .actions)) → ⊥
+    none : {r : ℕ} → List·Memᴰ r (padding ++ unless (hasStart (states sheet) (sheet .start)) 13 ++ flatMap each (sheet .actions)) → ⊥
     none {r} m = List·Memᴰ·not-nil (subst (λ (rs : List ℕ). List·Memᴰ r rs) (how .faultless) m)
 
     none-of : {a : Action} {r : ℕ} → List·Memᴰ a (sheet .actions) → List·Memᴰ r (each a) → ⊥
-    none-of i m = none (Memᴰ·append-right (padding ++ unless (hasStart sheet) 13) (mem-flat each (sheet .actions) i m))
+    none-of i m = none (Memᴰ·append-right (padding ++ unless (hasStart (states sheet) (sheet .start)) 13) (mem-flat each (sheet .actions) i m))
 
 -- The element at a number below the length is a member.
 at-mem : {A : Type 0} (d : A) (xs : List A) (i : ℕ) → i < length xs → List·Memᴰ (getD xs i d) xs
@@ -314,19 +363,20 @@ module _ (n : ℕ) where
   pub theory-facts : (d : ℕ) → Gives (FactsBelow n) (objective n true d)
   theory-facts d s p f q e = objective-within true d s p f q e .0
 
+  epistemic-behind-facts : (inside : Reader Objective) (part : Reader Epistemic) → Gives (ObjectiveFacts n) inside → Gives (EpistemicFacts n) part → (h : EpistemicHead)
+      → Gives (EpistemicFacts n) (epistemicBehind inside part h)
+  unfolding epistemicBehind EpistemicFacts
+  epistemic-behind-facts inside part x y known-head = gives-behind (ObjectiveFacts n) (EpistemicFacts n) inside _ x (λ f h. gives-give (EpistemicFacts n) (known f) h)
+  epistemic-behind-facts inside part x y not-known-head = gives-behind (ObjectiveFacts n) (EpistemicFacts n) inside _ x (λ f h. gives-give (EpistemicFacts n) (not-known f) h)
+  epistemic-behind-facts inside part x y all-of-head =
+      gives-behind (EpistemicFacts n) (EpistemicFacts n) part _ y (λ f h. gives-behind (EpistemicFacts n) (EpistemicFacts n) part _ y (λ g k. gives-give (EpistemicFacts n) (all-of f g) (h, k)))
+  epistemic-behind-facts inside part x y any-of-head =
+      gives-behind (EpistemicFacts n) (EpistemicFacts n) part _ y (λ f h. gives-behind (EpistemicFacts n) (EpistemicFacts n) part _ y (λ g k. gives-give (EpistemicFacts n) (any-of f g) (h, k)))
+
   epistemic-facts : (d : ℕ) → Gives (EpistemicFacts n) (epistemic n d)
-  unfolding epistemic epistemicBehind EpistemicFacts
+  unfolding epistemic
   epistemic-facts zero = gives-refuse (EpistemicFacts n) 8
-  epistemic-facts (suc d) =
-      gives-any Q (field 2) _ (λ tag.
-      gives-if Q (eqb tag 0) _ _ (gives-behind (ObjectiveFacts n) Q (objective n false d) _ (objective-facts d) (λ f h. gives-give Q (known f) h))
-      (gives-if Q (eqb tag 1) _ _ (gives-behind (ObjectiveFacts n) Q (objective n false d) _ (objective-facts d) (λ f h. gives-give Q (not-known f) h))
-      (gives-if Q (eqb tag 2) _ _
-      (gives-behind Q Q (epistemic n d) _ (epistemic-facts d) (λ f h. gives-behind Q Q (epistemic n d) _ (epistemic-facts d) (λ g k. gives-give Q (all-of f g) (h, k))))
-      (gives-behind Q Q (epistemic n d) _ (epistemic-facts d) (λ f h. gives-behind Q Q (epistemic n d) _ (epistemic-facts d) (λ g k. gives-give Q (any-of f g) (h, k)))))))
-    where
-      Q : Epistemic → Type 0
-      Q = EpistemicFacts n
+  epistemic-facts (suc d) = gives-any (EpistemicFacts n) epistemicHead _ (epistemic-behind-facts (objective n false d) (epistemic n d) (objective-facts d) (epistemic-facts d))
 
   replies-facts : (m : ℕ) → Gives (λ fs. (f : Objective) → List·Memᴰ f fs → ObjectiveFacts n f) (objectives n m)
   unfolding objectives
@@ -336,17 +386,15 @@ module _ (n : ℕ) where
       gives-behind (λ fs. (x : Objective) → List·Memᴰ x fs → ObjectiveFacts n x) _ (objectives n m) _ (replies-facts m) (λ fs k.
       gives-give _ (f ∷ fs) (mem-more (ObjectiveFacts n) f fs h k)))
 
+  action-behind-facts : (h : Kind) → Gives (ActionFacts n) (actionBehind n h)
+  unfolding actionBehind replies ActionFacts
+  action-behind-facts changes = gives-behind (FactsBelow n) (ActionFacts n) (theory n) _ (theory-facts 16) (λ f h. gives-give (ActionFacts n) (change f) h)
+  action-behind-facts probes =
+      gives-behind (λ fs. (f : Objective) → List·Memᴰ f fs → ObjectiveFacts n f) (ActionFacts n) (replies n) _ (gives-any _ replyNumber _ replies-facts) (λ fs h. gives-give (ActionFacts n) (probe fs) h)
+
   one-action-facts : Gives (ActionFacts n) (action n)
-  unfolding action actionBehind ActionFacts
-  one-action-facts =
-      gives-any Q (field 1) _ (λ kind.
-      gives-if Q (eqb kind 0) _ _
-      (gives-behind (FactsBelow n) Q (objective n true 16) _ (theory-facts 16) (λ f h. gives-give Q (change f) h))
-      (gives-any Q (field 4) _ (λ m. gives-check Q (leb 1 m && leb m 8) 5 _ (λ t.
-      gives-behind (λ fs. (f : Objective) → List·Memᴰ f fs → ObjectiveFacts n f) Q (objectives n m) _ (replies-facts m) (λ fs h. gives-give Q (probe fs) h)))))
-    where
-      Q : Action → Type 0
-      Q = ActionFacts n
+  unfolding action
+  one-action-facts = gives-any (ActionFacts n) kind _ action-behind-facts
 
   list-facts : (k : ℕ) → Gives (λ actions. (a : Action) → List·Memᴰ a actions → ActionFacts n a) (actionList n k)
   unfolding actionList
@@ -359,42 +407,36 @@ module _ (n : ℕ) where
   abbrev Routine : ProgramRead → Type 0
   Routine c = ProgramFacts n (c .program)
 
-  program-behind-facts : (k : ℕ) (part : ℕ → ℕ → Reader ProgramRead) → ((acts branches : ℕ) → Gives Routine (part acts branches)) → (acts branches tag : ℕ)
-      → Gives Routine (programBehind n k part acts branches tag)
+  program-behind-facts : (k : ℕ) (part : ℕ → ℕ → Reader ProgramRead) → ((acts branches : ℕ) → Gives Routine (part acts branches)) → (acts branches : ℕ) (h : ProgramHead)
+      → Gives Routine (programBehind n k part acts branches h)
   unfolding programBehind ProgramFacts
-  program-behind-facts k part facts acts branches tag =
-      gives-if Routine (eqb tag 0) _ _ (gives-give Routine _ tt)
-      (gives-if Routine (eqb tag 1) _ _
-      (gives-check Routine (ltb acts 64) 11 _ (λ t. gives-any Routine (field 5) _ (λ a. gives-check Routine (ltb a k) 9 _ (λ u.
-      gives-behind Routine Routine (part (acts + 1) branches) _ (facts (acts + 1) branches) (λ c h. gives-give Routine _ h)))))
-      (gives-if Routine (eqb tag 2) _ _
-      (gives-check Routine (ltb branches 63) 11 _ (λ t.
+  program-behind-facts k part facts acts branches end-head = gives-give Routine _ tt
+  program-behind-facts k part facts acts branches (act-head a) =
+      gives-check Routine (ltb a k) 9 _ (λ u. gives-behind Routine Routine (part (acts + 1) branches) _ (facts (acts + 1) branches) (λ c h. gives-give Routine _ h))
+  program-behind-facts k part facts acts branches branch-head =
       gives-behind (EpistemicFacts n) Routine (epistemic n 16) _ (epistemic-facts 16) (λ f h.
       gives-behind Routine Routine (part acts (branches + 1)) _ (facts acts (branches + 1)) (λ x hx.
       gives-behind Routine Routine (part (x .acts) (x .branches)) _ (facts (x .acts) (x .branches)) (λ y hy.
       gives-behind Routine Routine (part (y .acts) (y .branches)) _ (facts (y .acts) (y .branches)) (λ z hz.
-      gives-give Routine _ (h, hx, hy, hz)))))))
-      (gives-refuse Routine 10)))
+      gives-give Routine _ (h, hx, hy, hz)))))
 
   routine-facts : (k d acts branches : ℕ) → Gives Routine (programWithin n k d acts branches)
   unfolding programWithin
   routine-facts k zero acts branches = gives-refuse Routine 11
-  routine-facts k (suc d) acts branches = gives-any Routine (field 2) _ (program-behind-facts k (programWithin n k d) (routine-facts k d) acts branches)
+  routine-facts k (suc d) acts branches = gives-any Routine (programHead acts branches) _ (program-behind-facts k (programWithin n k d) (routine-facts k d) acts branches)
 
-with-facts : (programOf : (n k : ℕ) → Reader ProgramRead) → ((n k : ℕ) → Gives (λ c. ProgramFacts n (c .program)) (programOf n k)) → Gives SheetFacts (fieldsWith programOf)
-with-facts programOf facts =
-    gives-any SheetFacts (field 4) _ (λ edition. gives-check SheetFacts (isEdition edition) 3 _ (λ t.
-    gives-any SheetFacts (field 4) _ (λ n. gives-check SheetFacts (leb 1 n && leb n 8) 4 _ (λ u.
-    gives-any SheetFacts (field 5) _ (λ k.
-    gives-behind (λ actions. (a : Action) → List·Memᴰ a actions → ActionFacts n a) SheetFacts (actionList n k) _ (list-facts n k) (λ actions ha.
-    gives-behind (ObjectiveFacts n) SheetFacts (objective n false 16) _ (objective-facts n 16) (λ start hs.
-    gives-behind (EpistemicFacts n) SheetFacts (epistemic n 16) _ (epistemic-facts n 16) (λ goal hg.
-    gives-behind (λ c. ProgramFacts n (c .program)) SheetFacts (programOf n k) _ (facts n k) (λ c hc.
-    gives-give SheetFacts _ (record { action-facts = ha; start-facts = hs; goal-facts = hg; program-facts = hc }))))))))))
+  program-facts : (k : ℕ) → Gives Routine (program n k)
+  unfolding program
+  program-facts k = routine-facts k levels 0 0
 
 fields-facts : Gives SheetFacts sheetFields
-unfolding sheetFields
-fields-facts = with-facts (λ n k. programWithin n k 128 0 0) (λ n k. routine-facts n k 128 0 0)
+fields-facts =
+    gives-any SheetFacts header body (λ h.
+    gives-behind (λ actions. (a : Action) → List·Memᴰ a actions → ActionFacts (h .facts) a) SheetFacts (actionList (h .facts) (h .actions)) _ (list-facts (h .facts) (h .actions)) (λ actions ha.
+    gives-behind (ObjectiveFacts (h .facts)) SheetFacts (objective (h .facts) false 16) _ (objective-facts (h .facts) 16) (λ start hs.
+    gives-behind (EpistemicFacts (h .facts)) SheetFacts (epistemic (h .facts) 16) _ (epistemic-facts (h .facts) 16) (λ goal hg.
+    gives-behind (λ c. ProgramFacts (h .facts) (c .program)) SheetFacts (program (h .facts) (h .actions)) _ (program-facts (h .facts) (h .actions)) (λ c hc.
+    gives-give SheetFacts _ (record { action-facts = ha; start-facts = hs; goal-facts = hg; program-facts = hc }))))))
 
 -- The formulas of an accepted sheet mention its facts only, and new facts in theories only.
 pub accepted-facts : (bytes : List ℕ) (sheet : Sheet) → reading bytes ≡ accepted sheet → SheetFacts sheet

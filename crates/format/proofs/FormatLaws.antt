@@ -9,9 +9,9 @@ use lib.Dec.{leb, ltb, eqb}
 use lib.ListN.{length}
 use borrow.Author.Tests.{leb-true, ltb-true}
 use Rattle.lists.specs.Lists.{if_then_else_}
-use Rattle.reader.specs.Syntax.{Program, end, act, branch, actionNodes, branchNodes}
-use Rattle.reader.specs.Bits.{bitAt, bitsOnto, bitsAt}
-use Rattle.reader.specs.Format.{Read, got, fault, Reader, andThen, _>>=_, give, refuse, check, field, epistemic, ProgramRead, programBehind, programWithin}
+use Rattle.format.specs.Syntax.{Program, end, act, branch, actionNodes, branchNodes}
+use Rattle.format.specs.Bits.{bitAt, bitsOnto, bitsAt}
+use Rattle.format.specs.Format.{Read, got, fault, Reader, andThen, _>>=_, give, refuse, check, field, mostActs, mostBranches, epistemic, ProgramRead, ProgramHead, end-head, act-head, branch-head, programHead, programBehind, programWithin, levels}
 
 module _ {A : Type 0} (Q : A → Type 0) where
   -- Everything that a reader gives has a property.
@@ -162,6 +162,12 @@ module _ {A : Type 0} where
   unfolding refuse
   keeps-refuse r m s p a q e = let z : _≡_ {A = ℕ} 0 1 = cc in absurd (omega arith)
 
+  -- Going on only if a test passes.
+  keeps-passed : (b : Bool) (r : ℕ) (m : Reader A) → Keeps (check b r m) (check true r m)
+  unfolding check
+  keeps-passed true r m = λ s p a q e. e
+  keeps-passed false r m = keeps-refuse r m
+
 -- One reader behind another.
 pub keeps-behind : {A B : Type 0} (m m′ : Reader A) (k k′ : A → Reader B) → Keeps m m′ → ((a : A) → Keeps (k a) (k′ a)) → Keeps (m >>= k) (m′ >>= k′)
 keeps-behind m m′ k k′ x y s p b q e =
@@ -226,36 +232,61 @@ pub record Counts (k acts branches : ℕ) (c : ProgramRead) : Type 0 where
   pub branches-within : branches ≤ 63 → c .branches ≤ 63
   pub numbers : NumbersBelow k (c .program)
 
+-- The first node of a program is within the limits.
+abbrev pub Fits : (acts branches : ℕ) → ProgramHead → Type 0
+Fits acts branches end-head = Unit {0}
+Fits acts branches (act-head a) = acts < mostActs
+Fits acts branches branch-head = branches < mostBranches
+
+pub head-fits : (acts branches : ℕ) → Gives (Fits acts branches) (programHead acts branches)
+unfolding programHead
+head-fits acts branches =
+    gives-any Q (field 2) _ (λ tag.
+    gives-if Q (eqb tag 0) _ _ (gives-give Q end-head tt)
+    (gives-if Q (eqb tag 1) _ _ (gives-check Q (ltb acts 64) 11 _ (λ t. gives-any Q (field 5) _ (λ a. gives-give Q (act-head a) (ltb-true acts 64 t))))
+    (gives-if Q (eqb tag 2) _ _ (gives-check Q (ltb branches 63) 11 _ (λ t. gives-give Q branch-head (ltb-true branches 63 t)))
+    (gives-refuse Q 10))))
+  where
+    Q : ProgramHead → Type 0
+    Q = Fits acts branches
+
+-- A first node is one too where fewer nodes were read before it.
+pub head-anywhere : (acts branches : ℕ) → Keeps (programHead acts branches) (programHead 0 0)
+unfolding programHead
+head-anywhere acts branches =
+    keeps-behind (field 2) (field 2) _ _ (λ s p a q e. e) (λ tag.
+    keeps-if (eqb tag 0) _ _ _ _ (λ s p a q e. e)
+    (keeps-if (eqb tag 1) _ _ _ _ (keeps-passed (ltb acts 64) 11 _) (keeps-if (eqb tag 2) _ _ _ _ (keeps-passed (ltb branches 63) 11 _) (λ s p a q e. e))))
+
 -- One level of a program, whose parts count.
 module _ (n k : ℕ) (part : ℕ → ℕ → Reader ProgramRead) (counts : (acts branches : ℕ) → Gives (Counts k acts branches) (part acts branches)) (acts branches : ℕ) where
-  behind-counts : (tag : ℕ) → Gives (Counts k acts branches) (programBehind n k part acts branches tag)
+  behind-counts : (h : ProgramHead) → Fits acts branches h → Gives (Counts k acts branches) (programBehind n k part acts branches h)
   unfolding programBehind actionNodes branchNodes NumbersBelow
-  behind-counts tag =
-      gives-if Q (eqb tag 0) _ _
-      (gives-give Q _ (record { acts-counted = omega arith; branches-counted = omega arith; acts-within = λ l. l; branches-within = λ l. l; numbers = tt }))
-      (gives-if Q (eqb tag 1) _ _
-      (gives-check Q (ltb acts 64) 11 _ (λ t. gives-any Q (field 5) _ (λ a. gives-check Q (ltb a k) 9 _ (λ u.
-      behind-part (acts + 1) branches _ (λ x hx.
+  behind-counts end-head fits = gives-give (Counts k acts branches) _ (record { acts-counted = omega arith; branches-counted = omega arith; acts-within = λ l. l; branches-within = λ l. l; numbers = tt })
+  behind-counts (act-head a) fits =
+      gives-check Q (ltb a k) 9 _ (λ u. gives-behind (Counts k (acts + 1) branches) Q (part (acts + 1) branches) _ (counts (acts + 1) branches) (λ x hx.
       gives-give Q _ (record {
-        acts-counted = omega arith;
-        branches-counted = omega arith;
-        acts-within = λ l. hx .acts-within (omega (arith, ltb-true acts 64 t));
+        acts-counted = omega (arith, hx .acts-counted);
+        branches-counted = omega (arith, hx .branches-counted);
+        acts-within = λ l. hx .acts-within (omega (arith, fits));
         branches-within = hx .branches-within;
         numbers = (ltb-true a k u, hx .numbers);
-      }))))))
-      (gives-if Q (eqb tag 2) _ _
-      (gives-check Q (ltb branches 63) 11 _ (λ t. gives-any Q (epistemic n 16) _ (λ f.
+      })))
+    where
+      Q : ProgramRead → Type 0
+      Q = Counts k acts branches
+  behind-counts branch-head fits =
+      gives-any Q (epistemic n 16) _ (λ f.
       behind-part acts (branches + 1) _ (λ x hx.
       behind-part (x .acts) (x .branches) _ (λ y hy.
       behind-part (y .acts) (y .branches) _ (λ z hz.
       gives-give Q _ (record {
-        acts-counted = omega arith;
-        branches-counted = omega arith;
+        acts-counted = omega (arith, hx .acts-counted, hy .acts-counted, hz .acts-counted);
+        branches-counted = omega (arith, hx .branches-counted, hy .branches-counted, hz .branches-counted);
         acts-within = λ l. hz .acts-within (hy .acts-within (hx .acts-within l));
-        branches-within = λ l. hz .branches-within (hy .branches-within (hx .branches-within (omega (arith, ltb-true branches 63 t))));
+        branches-within = λ l. hz .branches-within (hy .branches-within (hx .branches-within (omega (arith, fits))));
         numbers = (hx .numbers, hy .numbers, hz .numbers);
-      })))))))
-      (gives-refuse Q 10)))
+      })))))
     where
       Q : ProgramRead → Type 0
       Q = Counts k acts branches
@@ -264,20 +295,16 @@ module _ (n k : ℕ) (part : ℕ → ℕ → Reader ProgramRead) (counts : (acts
       behind-part a b m y = gives-behind (Counts k a b) Q (part a b) m (counts a b) y
 
   -- It is read alike with other parts that read alike where fewer nodes may still come.
-  behind-same : (part′ : ℕ → ℕ → Reader ProgramRead) → ((a b : ℕ) → (64 - a) + (63 - b) < (64 - acts) + (63 - branches) → Same (part a b) (part′ a b)) → (tag : ℕ)
-      → Same (programBehind n k part acts branches tag) (programBehind n k part′ acts branches tag)
+  behind-same : (part′ : ℕ → ℕ → Reader ProgramRead) → ((a b : ℕ) → (64 - a) + (63 - b) < (64 - acts) + (63 - branches) → Same (part a b) (part′ a b)) → (h : ProgramHead) → Fits acts branches h
+      → Same (programBehind n k part acts branches h) (programBehind n k part′ acts branches h)
   unfolding programBehind
-  behind-same part′ alike tag =
-      same-if (eqb tag 0) _ _ _ _ (λ s p. refl)
-      (same-if (eqb tag 1) _ _ _ _
-      (same-check (ltb acts 64) 11 _ _ (λ t. same-any (field 5) _ _ (λ a. same-check (ltb a k) 9 _ _ (λ u.
-      same-part (acts + 1) branches (omega (arith, ltb-true acts 64 t)) _ _ (λ x hx s p. refl)))))
-      (same-if (eqb tag 2) _ _ _ _
-      (same-check (ltb branches 63) 11 _ _ (λ t. same-any (epistemic n 16) _ _ (λ f.
-      same-part acts (branches + 1) (omega (arith, ltb-true branches 63 t)) _ _ (λ x hx.
-      same-part (x .acts) (x .branches) (omega (arith, ltb-true branches 63 t)) _ _ (λ y hy.
-      same-part (y .acts) (y .branches) (omega (arith, ltb-true branches 63 t)) _ _ (λ z hz s p. refl))))))
-      (λ s p. refl)))
+  behind-same part′ alike end-head fits = λ s p. refl
+  behind-same part′ alike (act-head a) fits = same-check (ltb a k) 9 _ _ (λ u. same-behind (Counts k (acts + 1) branches) (part (acts + 1) branches) (part′ (acts + 1) branches) _ _ (counts (acts + 1) branches) (alike (acts + 1) branches (omega (arith, fits))) (λ x hx s p. refl))
+  behind-same part′ alike branch-head fits =
+      same-any (epistemic n 16) _ _ (λ f.
+      same-part acts (branches + 1) (omega (arith, fits)) _ _ (λ x hx.
+      same-part (x .acts) (x .branches) (omega (arith, fits, hx .acts-counted, hx .branches-counted)) _ _ (λ y hy.
+      same-part (y .acts) (y .branches) (omega (arith, fits, hx .acts-counted, hx .branches-counted, hy .acts-counted, hy .branches-counted)) _ _ (λ z hz s p. refl))))
     where
       same-part : (a b : ℕ) → (64 - a) + (63 - b) < (64 - acts) + (63 - branches) → (m m′ : ProgramRead → Reader ProgramRead) → ((c : ProgramRead) → Counts k a b c → Same (m c) (m′ c))
           → Same (part a b >>= m) (part′ a b >>= m′)
@@ -288,17 +315,18 @@ module _ (n k : ℕ) where
   pub program-counts : (d acts branches : ℕ) → Gives (Counts k acts branches) (programWithin n k d acts branches)
   unfolding programWithin
   program-counts zero acts branches = gives-refuse (Counts k acts branches) 11
-  program-counts (suc d) acts branches = gives-any (Counts k acts branches) (field 2) _ (behind-counts n k (programWithin n k d) (program-counts d) acts branches)
+  program-counts (suc d) acts branches =
+      gives-behind (Fits acts branches) (Counts k acts branches) (programHead acts branches) _ (head-fits acts branches) (behind-counts n k (programWithin n k d) (program-counts d) acts branches)
 
   -- A program is read alike with one level more, where the levels exceed the action nodes and branch nodes that may still come.
   pub enough-levels : (d acts branches : ℕ) → (64 - acts) + (63 - branches) < d → Same (programWithin n k (suc d) acts branches) (programWithin n k d acts branches)
   unfolding programWithin
   enough-levels zero acts branches h = absurd (omega arith)
   enough-levels (suc d) acts branches h =
-      same-any (field 2) _ _
+      same-behind (Fits acts branches) (programHead acts branches) (programHead acts branches) _ _ (head-fits acts branches) (λ s p. refl)
       (behind-same n k (programWithin n k (suc d)) (program-counts (suc d)) acts branches (programWithin n k d) (λ a b i. enough-levels d a b (omega arith)))
 
-  -- So 128 levels are enough, whatever was read before.
-  pub more-levels : (d acts branches : ℕ) → Same (programWithin n k (128 + d) acts branches) (programWithin n k 128 acts branches)
+  -- So these levels are enough, whatever was read before.
+  pub more-levels : (d acts branches : ℕ) → Same (programWithin n k (levels + d) acts branches) (programWithin n k levels acts branches)
   more-levels zero acts branches s p = refl
-  more-levels (suc d) acts branches s p = rw add-suc (enough-levels (128 + d) acts branches (omega arith) s p ∙ more-levels d acts branches s p)
+  more-levels (suc d) acts branches s p = rw add-suc (enough-levels (levels + d) acts branches (omega arith) s p ∙ more-levels d acts branches s p)

@@ -5,16 +5,25 @@ use mathlib.Core.Bool.{Bool, true, false, not, _&&_, _||_, Bool·beq}
 use lib.Dec.{eqb, ltb}
 use lib.ListN.{getD}
 use Rattle.lists.specs.Lists.{upFrom, below, keep}
-use Rattle.reader.specs.Syntax.{Objective, bottom, top, fact, new-fact, negation, conjunction, disjunction, equivalence, Action, change, probe, Sheet}
+use Rattle.format.specs.Syntax.{Objective, bottom, top, fact, new-fact, negation, conjunction, disjunction, equivalence, Action, change, probe, Sheet}
 
--- "A state is a byte: fact i has weight 2^i, weights of facts n and above are absent." The state space of a sheet: every other definition goes by this test.
+-- "A state is a byte: fact i has weight 2^i, weights of facts n and above are absent." Whether a number is a state over n facts: every other definition goes by this test.
+unfoldable pub inSpace : (n s : ℕ) → Bool
+inSpace n s = ltb s (2 ^ n)
+
+-- The states over n facts, in order. (All are below 2^n.)
+unfoldable pub spaceOf : (n : ℕ) → List ℕ
+unfolding upFrom keep inSpace
+spaceOf n = keep (inSpace n) (below (2 ^ n))
+
+-- Those of a sheet.
 unfoldable pub isState : Sheet → ℕ → Bool
-isState sheet s = ltb s (2 ^ sheet .facts)
+unfolding inSpace
+isState sheet s = inSpace (sheet .facts) s
 
--- The states of a sheet, in order. (All are below 2^n.)
 unfoldable pub states : Sheet → List ℕ
-unfolding upFrom keep isState
-states sheet = keep (isState sheet) (below (2 ^ sheet .facts))
+unfolding spaceOf
+states sheet = spaceOf (sheet .facts)
 
 -- Whether a fact is true in a state.
 unfoldable pub factIn : (s i : ℕ) → Bool

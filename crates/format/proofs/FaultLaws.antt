@@ -7,10 +7,10 @@ use native.Mathlib.Omega.{arith}
 use lib.Dec.{leb, ltb, eqb}
 use lib.ListN.{length}
 use Rattle.lists.specs.Lists.{if_then_else_}
-use Rattle.reader.specs.Syntax.{Objective, bottom, top, fact, new-fact, negation, conjunction, disjunction, equivalence, known, not-known, all-of, any-of, end, act, branch, Action, change, probe, Sheet}
-use Rattle.reader.specs.Bits.{bitsAt}
-use Rattle.reader.specs.Format.{Answer, refused, Read, got, fault, Reader, andThen, _>>=_, give, refuse, check, field, factNumber, objectiveBehind, objective, epistemicBehind, epistemic, objectives, actionBehind, action, actionList, ProgramRead, programBehind, programWithin, isEdition, sheetFields, isPadding, hasStart, leadsOn, hasReply, unless, faults, decided, afterFields, reading}
-use Rattle.reader.proofs.SheetLaws.{fieldsWith}
+use Rattle.format.specs.Syntax.{Objective, bottom, top, fact, new-fact, negation, conjunction, disjunction, equivalence, Epistemic, known, not-known, all-of, any-of, end, act, branch, Action, change, probe, Sheet}
+use Rattle.format.specs.Bits.{bitsAt}
+use Rattle.format.specs.Truth.{states}
+use Rattle.format.specs.Format.{Answer, refused, Read, got, fault, Reader, andThen, _>>=_, give, refuse, check, field, factNumber, objectiveBehind, objective, EpistemicHead, known-head, not-known-head, all-of-head, any-of-head, epistemicHead, epistemicBehind, epistemic, objectives, Kind, changes, probes, kind, replyNumber, theory, replies, actionBehind, action, actionList, ProgramRead, ProgramHead, end-head, act-head, branch-head, programHead, programBehind, programWithin, levels, program, isEdition, Header, header, body, sheetFields, isPadding, hasStart, leadsOn, hasReply, unless, actionFaults, faults, decided, afterFields, ofSheet, reading}
 
 -- One of the numbers.
 abbrev pub IsNumber : ℕ → Type 0
@@ -79,16 +79,24 @@ module _ (n : ℕ) where
   objective-numbered theory zero = numbered-refuse 8 (omega arith, omega arith)
   objective-numbered theory (suc d) = numbered-behind (field 3) _ (numbered-field 3) (behind-numbered theory (objective n theory d) (objective-numbered theory d))
 
+  epistemic-head-numbered : Numbered epistemicHead
+  unfolding epistemicHead
+  epistemic-head-numbered =
+      numbered-behind (field 2) _ (numbered-field 2) (λ tag.
+      numbered-if (eqb tag 0) _ _ (numbered-give known-head) (numbered-if (eqb tag 1) _ _ (numbered-give not-known-head) (numbered-if (eqb tag 2) _ _ (numbered-give all-of-head) (numbered-give any-of-head))))
+
+  epistemic-behind-numbered : (inside : Reader Objective) (part : Reader Epistemic) → Numbered inside → Numbered part → (h : EpistemicHead) → Numbered (epistemicBehind inside part h)
+  unfolding epistemicBehind
+  epistemic-behind-numbered inside part x y known-head = numbered-behind inside _ x (λ f. numbered-give (known f))
+  epistemic-behind-numbered inside part x y not-known-head = numbered-behind inside _ x (λ f. numbered-give (not-known f))
+  epistemic-behind-numbered inside part x y all-of-head = numbered-behind part _ y (λ f. numbered-behind part _ y (λ g. numbered-give (all-of f g)))
+  epistemic-behind-numbered inside part x y any-of-head = numbered-behind part _ y (λ f. numbered-behind part _ y (λ g. numbered-give (any-of f g)))
+
   epistemic-numbered : (d : ℕ) → Numbered (epistemic n d)
-  unfolding epistemic epistemicBehind
+  unfolding epistemic
   epistemic-numbered zero = numbered-refuse 8 (omega arith, omega arith)
   epistemic-numbered (suc d) =
-      numbered-behind (field 2) _ (numbered-field 2) (λ tag.
-      numbered-if (eqb tag 0) _ _ (numbered-behind (objective n false d) _ (objective-numbered false d) (λ f. numbered-give (known f)))
-      (numbered-if (eqb tag 1) _ _ (numbered-behind (objective n false d) _ (objective-numbered false d) (λ f. numbered-give (not-known f)))
-      (numbered-if (eqb tag 2) _ _
-      (numbered-behind (epistemic n d) _ (epistemic-numbered d) (λ f. numbered-behind (epistemic n d) _ (epistemic-numbered d) (λ g. numbered-give (all-of f g))))
-      (numbered-behind (epistemic n d) _ (epistemic-numbered d) (λ f. numbered-behind (epistemic n d) _ (epistemic-numbered d) (λ g. numbered-give (any-of f g)))))))
+      numbered-behind epistemicHead _ epistemic-head-numbered (epistemic-behind-numbered (objective n false d) (epistemic n d) (objective-numbered false d) (epistemic-numbered d))
 
   objectives-numbered : (m : ℕ) → Numbered (objectives n m)
   unfolding objectives
@@ -96,66 +104,67 @@ module _ (n : ℕ) where
   objectives-numbered (suc m) =
       numbered-behind (objective n false 16) _ (objective-numbered false 16) (λ f. numbered-behind (objectives n m) _ (objectives-numbered m) (λ fs. numbered-give (f ∷ fs)))
 
+  action-behind-numbered : (h : Kind) → Numbered (actionBehind n h)
+  unfolding actionBehind replies replyNumber
+  action-behind-numbered changes = numbered-behind (theory n) _ (objective-numbered true 16) (λ f. numbered-give (change f))
+  action-behind-numbered probes =
+      numbered-behind (replies n) _
+      (numbered-behind replyNumber _ (numbered-behind (field 4) _ (numbered-field 4) (λ m. numbered-check (leb 1 m && leb m 8) 5 _ (omega arith, omega arith) (numbered-give m))) objectives-numbered)
+      (λ fs. numbered-give (probe fs))
+
   action-numbered : Numbered (action n)
-  unfolding action actionBehind
+  unfolding action kind
   action-numbered =
-      numbered-behind (field 1) _ (numbered-field 1) (λ kind.
-      numbered-if (eqb kind 0) _ _ (numbered-behind (objective n true 16) _ (objective-numbered true 16) (λ f. numbered-give (change f)))
-      (numbered-behind (field 4) _ (numbered-field 4) (λ m.
-      numbered-check (leb 1 m && leb m 8) 5 _ (omega arith, omega arith) (numbered-behind (objectives n m) _ (objectives-numbered m) (λ fs. numbered-give (probe fs))))))
+      numbered-behind kind _ (numbered-behind (field 1) _ (numbered-field 1) (λ bit. numbered-if (eqb bit 0) _ _ (numbered-give changes) (numbered-give probes))) action-behind-numbered
 
   list-numbered : (k : ℕ) → Numbered (actionList n k)
   unfolding actionList
   list-numbered zero = numbered-give []
   list-numbered (suc k) = numbered-behind (action n) _ action-numbered (λ a. numbered-behind (actionList n k) _ (list-numbered k) (λ rest. numbered-give (a ∷ rest)))
 
-  module _ (k : ℕ) (part : ℕ → ℕ → Reader ProgramRead) (x : (acts branches : ℕ) → Numbered (part acts branches)) (acts branches : ℕ) where
-    act-numbered : Numbered {A = ProgramRead} (check (ltb acts 64) 11 (do
-      a ← field 5
-      check (ltb a k) 9 (do
-        rest ← part (acts + 1) branches
-        give (record { program = act a (rest .program); acts = rest .acts; branches = rest .branches }))))
-    act-numbered =
-        numbered-check (ltb acts 64) 11 _ (omega arith, omega arith) (numbered-behind (field 5) _ (numbered-field 5) (λ a.
-        numbered-check (ltb a k) 9 _ (omega arith, omega arith) (numbered-behind (part (acts + 1) branches) _ (x (acts + 1) branches) (λ c. numbered-give _))))
+  program-head-numbered : (acts branches : ℕ) → Numbered (programHead acts branches)
+  unfolding programHead
+  program-head-numbered acts branches =
+      numbered-behind (field 2) _ (numbered-field 2) (λ tag.
+      numbered-if (eqb tag 0) _ _ (numbered-give end-head)
+      (numbered-if (eqb tag 1) _ _ (numbered-check (ltb acts 64) 11 _ (omega arith, omega arith) (numbered-behind (field 5) _ (numbered-field 5) (λ a. numbered-give (act-head a))))
+      (numbered-if (eqb tag 2) _ _ (numbered-check (ltb branches 63) 11 _ (omega arith, omega arith) (numbered-give branch-head))
+      (numbered-refuse 10 (omega arith, omega arith)))))
 
-    branch-numbered : Numbered {A = ProgramRead} (check (ltb branches 63) 11 (do
-      f ← epistemic n 16
-      yes-part ← part acts (branches + 1)
-      no-part ← part (yes-part .acts) (yes-part .branches)
-      rest ← part (no-part .acts) (no-part .branches)
-      give (record { program = branch f (yes-part .program) (no-part .program) (rest .program); acts = rest .acts; branches = rest .branches })))
-    branch-numbered =
-        numbered-check (ltb branches 63) 11 _ (omega arith, omega arith)
-        (numbered-behind (epistemic n 16) _ (epistemic-numbered 16) (λ f.
+  module _ (k : ℕ) (part : ℕ → ℕ → Reader ProgramRead) (x : (acts branches : ℕ) → Numbered (part acts branches)) (acts branches : ℕ) where
+    node-numbered : (h : ProgramHead) → Numbered (programBehind n k part acts branches h)
+    unfolding programBehind
+    node-numbered end-head = numbered-give (record { program = end; acts = acts; branches = branches })
+    node-numbered (act-head a) = numbered-check (ltb a k) 9 _ (omega arith, omega arith) (numbered-behind (part (acts + 1) branches) _ (x (acts + 1) branches) (λ c. numbered-give {A = ProgramRead} _))
+    node-numbered branch-head =
+        numbered-behind (epistemic n 16) _ (epistemic-numbered 16) (λ f.
         numbered-behind (part acts (branches + 1)) _ (x acts (branches + 1)) (λ y.
         numbered-behind (part (y .acts) (y .branches)) _ (x (y .acts) (y .branches)) (λ z.
-        numbered-behind (part (z .acts) (z .branches)) _ (x (z .acts) (z .branches)) (λ c. numbered-give _)))))
-
-    node-numbered : (tag : ℕ) → Numbered (programBehind n k part acts branches tag)
-    unfolding programBehind
-    node-numbered tag =
-        numbered-if (eqb tag 0) _ _ (numbered-give (record { program = end; acts = acts; branches = branches }))
-        (numbered-if (eqb tag 1) _ _ act-numbered (numbered-if (eqb tag 2) _ _ branch-numbered (numbered-refuse {A = ProgramRead} 10 (omega arith, omega arith))))
+        numbered-behind (part (z .acts) (z .branches)) _ (x (z .acts) (z .branches)) (λ c. numbered-give {A = ProgramRead} _))))
 
   program-numbered : (k d acts branches : ℕ) → Numbered (programWithin n k d acts branches)
   unfolding programWithin
   program-numbered k zero acts branches = numbered-refuse 11 (omega arith, omega arith)
-  program-numbered k (suc d) acts branches = numbered-behind (field 2) _ (numbered-field 2) (node-numbered k (programWithin n k d) (program-numbered k d) acts branches)
+  program-numbered k (suc d) acts branches = numbered-behind (programHead acts branches) _ (program-head-numbered acts branches) (node-numbered k (programWithin n k d) (program-numbered k d) acts branches)
 
-with-numbered : (programOf : (n k : ℕ) → Reader ProgramRead) → ((n k : ℕ) → Numbered (programOf n k)) → Numbered {A = Sheet} (fieldsWith programOf)
-with-numbered programOf x =
+header-numbered : Numbered header
+unfolding header
+header-numbered =
     numbered-behind (field 4) _ (numbered-field 4) (λ edition. numbered-check (isEdition edition) 3 _ (omega arith, omega arith)
     (numbered-behind (field 4) _ (numbered-field 4) (λ n. numbered-check (leb 1 n && leb n 8) 4 _ (omega arith, omega arith)
-    (numbered-behind (field 5) _ (numbered-field 5) (λ k.
-    numbered-behind (actionList n k) _ (list-numbered n k) (λ actions.
-    numbered-behind (objective n false 16) _ (objective-numbered n false 16) (λ start.
-    numbered-behind (epistemic n 16) _ (epistemic-numbered n 16) (λ goal.
-    numbered-behind (programOf n k) _ (x n k) (λ c. numbered-give {A = Sheet} _)))))))))
+    (numbered-behind (field 5) _ (numbered-field 5) (λ k. numbered-give {A = Header} _)))))
+
+whole-program-numbered : (n k : ℕ) → Numbered (program n k)
+unfolding program
+whole-program-numbered n k = program-numbered n k levels 0 0
 
 fields-numbered : Numbered sheetFields
-unfolding sheetFields
-fields-numbered = with-numbered (λ n k. programWithin n k 128 0 0) (λ n k. program-numbered n k 128 0 0)
+fields-numbered =
+    numbered-behind header body header-numbered (λ h.
+    numbered-behind (actionList (h .facts) (h .actions)) _ (list-numbered (h .facts) (h .actions)) (λ actions.
+    numbered-behind (objective (h .facts) false 16) _ (objective-numbered (h .facts) false 16) (λ start.
+    numbered-behind (epistemic (h .facts) 16) _ (epistemic-numbered (h .facts) 16) (λ goal.
+    numbered-behind (program (h .facts) (h .actions)) _ (whole-program-numbered (h .facts) (h .actions)) (λ c. numbered-give {A = Sheet} _)))))
 
 -- The tests after the fields.
 first-numbered : (b : Bool) (k : ℕ) → IsNumber k → (rest : List ℕ) → ((r : ℕ) (rs : List ℕ) → rest ≡ r ∷ rs → IsNumber r) → (r : ℕ) (rs : List ℕ) → unless b k ++ rest ≡ r ∷ rs → IsNumber r
@@ -163,13 +172,13 @@ unfolding unless
 first-numbered true k n rest x r rs e = x r rs e
 first-numbered false k n rest x r rs e = let same : k ≡ r = cc in (omega (arith, n .0, same), omega (arith, n .1, same))
 
-actions-numbered : (sheet : Sheet) (actions : List Action) (r : ℕ) (rs : List ℕ) → flatMap (λ a. unless (leadsOn sheet a) 14 ++ unless (hasReply sheet a) 15) actions ≡ r ∷ rs → IsNumber r
-unfolding unless flatMap
-actions-numbered sheet [] r rs e = let z : _≡_ {A = ℕ} 0 1 = cc in absurd (omega arith)
-actions-numbered sheet (a ∷ actions) r rs e = go (leadsOn sheet a) (hasReply sheet a) e (λ k. actions-numbered sheet actions r rs k)
+actions-numbered : (space : List ℕ) (actions : List Action) (r : ℕ) (rs : List ℕ) → flatMap (actionFaults space) actions ≡ r ∷ rs → IsNumber r
+unfolding actionFaults unless flatMap
+actions-numbered space [] r rs e = let z : _≡_ {A = ℕ} 0 1 = cc in absurd (omega arith)
+actions-numbered space (a ∷ actions) r rs e = go (leadsOn space a) (hasReply space a) e (λ k. actions-numbered space actions r rs k)
   where
     more : List ℕ
-    more = flatMap (λ a. unless (leadsOn sheet a) 14 ++ unless (hasReply sheet a) 15) actions
+    more = flatMap (actionFaults space) actions
 
     go : (b c : Bool) → (unless b 14 ++ unless c 15) ++ more ≡ r ∷ rs → (more ≡ r ∷ rs → IsNumber r) → IsNumber r
     go true true k x = x k
@@ -178,7 +187,7 @@ actions-numbered sheet (a ∷ actions) r rs e = go (leadsOn sheet a) (hasReply s
 
 -- So it is with a sheet.
 pub refused-number : (bytes : List ℕ) (k : ℕ) → reading bytes ≡ refused k → IsNumber k
-unfolding reading afterFields decided faults if_then_else_
+unfolding reading ofSheet afterFields decided faults if_then_else_
 refused-number bytes k e = go (leb (length bytes) 1024) e
   where
     tests : (l : List ℕ) (sheet : Sheet) → ((r : ℕ) (rs : List ℕ) → l ≡ r ∷ rs → IsNumber r) → decided l sheet ≡ refused k → IsNumber k
@@ -188,12 +197,13 @@ refused-number bytes k e = go (leb (length bytes) 1024) e
     after : (f : Read Sheet) → sheetFields bytes 0 ≡ f → afterFields bytes f ≡ refused k → IsNumber k
     after (fault r) l d = let same : r ≡ k = cc in let n = fields-numbered bytes 0 r l in (omega (arith, n .0, same), omega (arith, n .1, same))
     after (got sheet p) l d =
-        let kinds = flatMap (λ a. unless (leadsOn sheet a) 14 ++ unless (hasReply sheet a) 15) (sheet .actions) in
+        let kinds = flatMap (actionFaults (states sheet)) (sheet .actions) in
+        let starts = hasStart (states sheet) (sheet .start) in
         tests (faults bytes p sheet) sheet (λ r rs q.
-        first-numbered (isPadding bytes p) 12 (omega arith, omega arith) (unless (hasStart sheet) 13 ++ kinds)
-        (first-numbered (hasStart sheet) 13 (omega arith, omega arith) kinds (actions-numbered sheet (sheet .actions)))
-        r rs (sym (append-assoc (unless (isPadding bytes p) 12) (unless (hasStart sheet) 13) kinds) ∙ q)) d
+        first-numbered (isPadding bytes p) 12 (omega arith, omega arith) (unless starts 13 ++ kinds)
+        (first-numbered starts 13 (omega arith, omega arith) kinds (actions-numbered (states sheet) (sheet .actions)))
+        r rs (sym (append-assoc (unless (isPadding bytes p) 12) (unless starts 13) kinds) ∙ q)) d
 
-    go : (b : Bool) → _≡_ {A = Answer Sheet} (if b then afterFields bytes (sheetFields bytes 0) else refused 1) (refused k) → IsNumber k
+    go : (b : Bool) → afterFields bytes (if b then sheetFields bytes 0 else fault 1) ≡ refused k → IsNumber k
     go true d = after (sheetFields bytes 0) refl d
     go false d = let same : 1 ≡ k = cc in (omega (arith, same), omega (arith, same))

@@ -1,0 +1,319 @@
+-- The packed format: what a list of bytes says, or the number of its refusal. Document 01, "The sheet" and "From the sheet".
+use Prim.Native.Nat.{ℕ, zero, suc, _+_, _-_, _*_}
+use mathlib.Core.List.{List, [], _∷_, _++_, flatMap}
+use mathlib.Core.Bool.{Bool, true, false, _&&_}
+use lib.ListN.{length}
+use lib.Dec.{leb, ltb, eqb}
+use Rattle.lists.specs.Lists.{if_then_else_, upFrom, below, every, exists}
+use Rattle.format.specs.Syntax.{Objective, bottom, top, fact, new-fact, negation, conjunction, disjunction, equivalence, Epistemic, known, not-known, all-of, any-of, Program, end, act, branch, Action, change, probe, replyCount, Sheet}
+use Rattle.format.specs.Truth.{states, holds, moves, answers}
+use Rattle.format.specs.Bits.{bitsAt}
+
+-- An answer, or a refusal by its number.
+pub data Answer (A : Type 0) : Type 0 where
+  accepted : A → Answer A
+  refused : ℕ → Answer A
+
+-- What reading from a position finds: a value and the position after it, or the number of a refusal.
+pub data Read (A : Type 0) : Type 0 where
+  got : A → ℕ → Read A
+  fault : ℕ → Read A
+
+-- A reader reads the bytes from a position on.
+abbrev pub Reader : Type 0 → Type 0
+Reader A = List ℕ → ℕ → Read A
+
+-- One reading behind another: "fields in reading order", so the first refusal stands.
+unfoldable pub andThen : {A B : Type 0} → Read A → (A → ℕ → Read B) → Read B
+andThen (got a p) k = k a p
+andThen (fault r) k = fault r
+
+infixl 40 _>>=_
+unfoldable pub _>>=_ : {A B : Type 0} → Reader A → (A → Reader B) → Reader B
+unfolding andThen
+_>>=_ m k bytes p = andThen (m bytes p) (λ a q. k a bytes q)
+
+-- What was found, with another value made of it.
+unfoldable pub mapped : {A B : Type 0} → (A → B) → Read A → Read B
+mapped g (got a p) = got (g a) p
+mapped g (fault r) = fault r
+
+-- Reading nothing and giving a value; refusing; going on only if a test passes.
+unfoldable pub give : {A : Type 0} → A → Reader A
+give a bytes p = got a p
+
+unfoldable pub refuse : {A : Type 0} → ℕ → Reader A
+refuse r bytes p = fault r
+
+unfoldable pub check : {A : Type 0} (passed : Bool) (r : ℕ) → Reader A → Reader A
+unfolding refuse
+check true r go = go
+check false r go = refuse r
+
+-- The limits of a sheet, "The sheet": its bytes, facts, replies of a probe, depth of a formula ("depth 16 is the deepest allowed"), action nodes and branch nodes.
+abbrev pub mostBytes : ℕ
+mostBytes = 1024
+
+abbrev pub mostFacts : ℕ
+mostFacts = 8
+
+abbrev pub mostReplies : ℕ
+mostReplies = 8
+
+abbrev pub deepest : ℕ
+deepest = 16
+
+abbrev pub mostActs : ℕ
+mostActs = 64
+
+abbrev pub mostBranches : ℕ
+mostBranches = 63
+
+-- A field of k bits. 2: the sheet ends inside it.
+unfoldable pub field : (k : ℕ) → Reader ℕ
+unfolding bitsAt if_then_else_
+field k bytes p = if leb (p + k) (8 * length bytes) then got (bitsAt bytes p k) (p + k) else fault 2
+
+-- A 3-bit fact number. 6: it is n or more.
+unfoldable pub factNumber : (n : ℕ) → Reader ℕ
+unfolding field _>>=_ check give
+factNumber n = do
+  i ← field 3
+  check (ltb i n) 6 (give i)
+
+-- An objective formula behind its tag: 0 false; 1 true; 2 fact; 3 new fact; 4 not; 5 and; 6 or; 7 equivalence. `part` reads a formula one deeper.
+-- 7: a new fact outside a theory, "before the fact number".
+unfoldable pub objectiveBehind : (n : ℕ) (theory : Bool) (part : Reader Objective) (tag : ℕ) → Reader Objective
+unfolding factNumber _>>=_ check give if_then_else_
+objectiveBehind n theory part tag =
+    if eqb tag 0 then give bottom
+    else if eqb tag 1 then give top
+    else if eqb tag 2 then (do i ← factNumber n; give (fact i))
+    else if eqb tag 3 then check theory 7 (do i ← factNumber n; give (new-fact i))
+    else if eqb tag 4 then (do f ← part; give (negation f))
+    else if eqb tag 5 then (do f ← part; g ← part; give (conjunction f g))
+    else if eqb tag 6 then (do f ← part; g ← part; give (disjunction f g))
+    else (do f ← part; g ← part; give (equivalence f g))
+
+-- An objective formula over n facts, with d levels of depth left. 8: none is left, "before the tag is read".
+unfoldable pub objective : (n : ℕ) (theory : Bool) (d : ℕ) → Reader Objective
+unfolding refuse field objectiveBehind _>>=_
+objective n theory zero = refuse 8
+objective n theory (suc d) = field 3 >>= objectiveBehind n theory (objective n theory d)
+
+-- The first node of an epistemic formula. "Epistemic formula: 2-bit tag. 0 known; 1 not known; 2 and; 3 or."
+pub data EpistemicHead : Type 0 where
+  known-head not-known-head all-of-head any-of-head : EpistemicHead
+
+unfoldable pub epistemicHead : Reader EpistemicHead
+unfolding field _>>=_ give if_then_else_
+epistemicHead = do
+  tag ← field 2
+  if eqb tag 0 then give known-head else if eqb tag 1 then give not-known-head else if eqb tag 2 then give all-of-head else give any-of-head
+
+-- An epistemic formula behind its first node. `inside` reads an objective formula one deeper, `part` an epistemic one.
+unfoldable pub epistemicBehind : (inside : Reader Objective) (part : Reader Epistemic) → EpistemicHead → Reader Epistemic
+unfolding _>>=_ give
+epistemicBehind inside part known-head = do f ← inside; give (known f)
+epistemicBehind inside part not-known-head = do f ← inside; give (not-known f)
+epistemicBehind inside part all-of-head = do f ← part; g ← part; give (all-of f g)
+epistemicBehind inside part any-of-head = do f ← part; g ← part; give (any-of f g)
+
+-- An epistemic formula over n facts, with d levels of depth left. "Known and not known count as nodes", so their formula is one deeper.
+unfoldable pub epistemic : (n d : ℕ) → Reader Epistemic
+unfolding refuse epistemicHead objective epistemicBehind _>>=_
+epistemic n zero = refuse 8
+epistemic n (suc d) = epistemicHead >>= epistemicBehind (objective n false d) (epistemic n d)
+
+-- m objective formulas, one after the other.
+unfoldable pub objectives : (n m : ℕ) → Reader (List Objective)
+unfolding objective _>>=_ give
+objectives n zero = give []
+objectives n (suc m) = do
+  f ← objective n false deepest
+  fs ← objectives n m
+  give (f ∷ fs)
+
+-- The kind of an action. "Action: 1 bit. 0 is a change. 1 is a probe."
+pub data Kind : Type 0 where
+  changes probes : Kind
+
+unfoldable pub kind : Reader Kind
+unfolding field _>>=_ give if_then_else_
+kind = do
+  bit ← field 1
+  if eqb bit 0 then give changes else give probes
+
+-- "Reply count m, 4 bits, 1 to 8." 5: m is not 1 to 8.
+unfoldable pub replyNumber : Reader ℕ
+unfolding field check _>>=_ give
+replyNumber = do
+  m ← field 4
+  check (leb 1 m && leb m mostReplies) 5 (give m)
+
+-- A theory; the replies of a probe behind their count.
+abbrev pub theory : (n : ℕ) → Reader Objective
+theory n = objective n true deepest
+
+unfoldable pub replies : (n : ℕ) → Reader (List Objective)
+unfolding replyNumber objectives _>>=_
+replies n = replyNumber >>= objectives n
+
+-- An action behind its kind.
+unfoldable pub actionBehind : (n : ℕ) → Kind → Reader Action
+unfolding objective replies _>>=_ give
+actionBehind n changes = do f ← theory n; give (change f)
+actionBehind n probes = do fs ← replies n; give (probe fs)
+
+unfoldable pub action : (n : ℕ) → Reader Action
+unfolding kind actionBehind _>>=_
+action n = kind >>= actionBehind n
+
+-- k actions, one after the other.
+unfoldable pub actionList : (n k : ℕ) → Reader (List Action)
+unfolding action _>>=_ give
+actionList n zero = give []
+actionList n (suc k) = do
+  a ← action n
+  rest ← actionList n k
+  give (a ∷ rest)
+
+-- A program, with the numbers of action nodes and of branch nodes read up to its end.
+pub record ProgramRead : Type 0 where
+  pub program : Program
+  pub acts : ℕ
+  pub branches : ℕ
+
+-- The first node of a program: the end, an action with its number, or a branch.
+pub data ProgramHead : Type 0 where
+  end-head : ProgramHead
+  act-head : ℕ → ProgramHead
+  branch-head : ProgramHead
+
+-- "Program: 2-bit tag. 0 end; 1 action (5-bit number, then the rest); 2 branch; 3 loop, refused." "At most 64 action nodes and 63 branch nodes": acts and
+-- branches are those read before. 11: a node too many, and 10: a loop, both "when the tag is known".
+unfoldable pub programHead : (acts branches : ℕ) → Reader ProgramHead
+unfolding field refuse check _>>=_ give if_then_else_
+programHead acts branches = do
+  tag ← field 2
+  if eqb tag 0 then give end-head
+      else if eqb tag 1 then check (ltb acts mostActs) 11 (do a ← field 5; give (act-head a))
+      else if eqb tag 2 then check (ltb branches mostBranches) 11 (give branch-head)
+      else refuse 10
+
+-- A program behind its first node, over n facts and k actions, where acts and branches are the nodes read before it. `part` reads a program.
+-- 9: an action number k or more.
+unfoldable pub programBehind : (n k : ℕ) (part : ℕ → ℕ → Reader ProgramRead) (acts branches : ℕ) → ProgramHead → Reader ProgramRead
+unfolding epistemic check _>>=_ give
+programBehind n k part acts branches end-head = give (record { program = end; acts = acts; branches = branches })
+programBehind n k part acts branches (act-head a) =
+    check (ltb a k) 9 (do
+      rest ← part (acts + 1) branches
+      give (record { program = act a (rest .program); acts = rest .acts; branches = rest .branches }))
+programBehind n k part acts branches branch-head = do
+  f ← epistemic n deepest
+  yes-part ← part acts (branches + 1)
+  no-part ← part (yes-part .acts) (yes-part .branches)
+  rest ← part (no-part .acts) (no-part .branches)
+  give (record { program = branch f (yes-part .program) (no-part .program) (rest .program); acts = rest .acts; branches = rest .branches })
+
+-- A program with d levels left. Programs have no depth limit of their own: a level for each node that may come and one for an end are enough
+-- (proofs/FormatLaws.antt, `more-levels`: more levels give the same), so the case of none left never arises.
+unfoldable pub programWithin : (n k d acts branches : ℕ) → Reader ProgramRead
+unfolding programHead programBehind refuse _>>=_
+programWithin n k zero acts branches = refuse 11
+programWithin n k (suc d) acts branches = programHead acts branches >>= programBehind n k (programWithin n k d) acts branches
+
+abbrev pub levels : ℕ
+levels = mostActs + mostBranches + 1
+
+unfoldable pub program : (n k : ℕ) → Reader ProgramRead
+unfolding programWithin
+program n k = programWithin n k levels 0 0
+
+-- The editions that are read, named here and nowhere else.
+unfoldable pub isEdition : ℕ → Bool
+isEdition edition = eqb edition 1
+
+-- What the header says: the number of facts and the number of actions.
+pub record Header : Type 0 where
+  pub facts : ℕ
+  pub actions : ℕ
+
+-- "Edition, 4 bits, value 1; number of facts n, 4 bits, 1 to 8; number of actions A, 5 bits, 0 to 31." 3: edition; 4: n is not 1 to 8.
+unfoldable pub header : Reader Header
+unfolding isEdition field check _>>=_ give
+header = do
+  edition ← field 4
+  check (isEdition edition) 3 do
+    n ← field 4
+    check (leb 1 n && leb n mostFacts) 4 do
+      k ← field 5
+      give (record { facts = n; actions = k })
+
+-- The fields behind the header, in order; and all of them.
+abbrev pub body : Header → Reader Sheet
+body h = do
+  actions ← actionList (h .facts) (h .actions)
+  start ← objective (h .facts) false deepest
+  goal ← epistemic (h .facts) deepest
+  counted ← program (h .facts) (h .actions)
+  give (record { facts = h .facts; actions = actions; start = start; goal = goal; program = counted .program })
+
+abbrev pub sheetFields : Reader Sheet
+sheetFields = header >>= body
+
+-- "0 to 7 zero bits to the end of the byte": from p fewer than 8 bits are left, all of them 0.
+unfoldable pub isPadding : (bytes : List ℕ) (p : ℕ) → Bool
+unfolding bitsAt
+isPadding bytes p = ltb (8 * length bytes - p) 8 && eqb (bitsAt bytes p (8 * length bytes - p)) 0
+
+-- The tests on a list of states, the state space. "The start formula must hold in some state."
+unfoldable pub hasStart : (space : List ℕ) (start : Objective) → Bool
+unfolding exists holds
+hasStart space start = exists (holds start) space
+
+-- "A theory must allow some next state from each of the 2^n states" (2012, 2013: fully executable). (A probe leaves the state as it is.)
+unfoldable pub leadsOn : (space : List ℕ) → Action → Bool
+unfolding every exists moves
+leadsOn space a = every (λ s. exists (λ t. moves a s t) space) space
+
+-- "In each of the 2^n states some reply of a probe must be true" (2013: feedbacks are exhaustive; 2012 has no such rule). (A change's reply 0 is.)
+unfoldable pub hasReply : (space : List ℕ) → Action → Bool
+unfolding every exists answers upFrom replyCount
+hasReply space a = every (λ s. exists (λ r. answers a r s) (below (replyCount a))) space
+
+-- A test's number if it fails.
+unfoldable pub unless : (passed : Bool) (r : ℕ) → List ℕ
+unless true r = []
+unless false r = r ∷ []
+
+-- The numbers of the tests that fail for an action: 14, a state without next state, and 15, a state without reply.
+unfoldable pub actionFaults : (space : List ℕ) → Action → List ℕ
+unfolding leadsOn hasReply unless
+actionFaults space a = unless (leadsOn space a) 14 ++ unless (hasReply space a) 15
+
+-- The numbers of the tests that fail after the fields, in order: 12, a set padding bit or a spare byte; 13, no start state; then by action number 14 and 15.
+unfoldable pub faults : (bytes : List ℕ) (p : ℕ) → Sheet → List ℕ
+unfolding isPadding hasStart actionFaults states unless flatMap
+faults bytes p sheet = unless (isPadding bytes p) 12 ++ unless (hasStart (states sheet) (sheet .start)) 13 ++ flatMap (actionFaults (states sheet)) (sheet .actions)
+
+-- The first of them decides.
+unfoldable pub decided : List ℕ → Sheet → Answer Sheet
+decided [] sheet = accepted sheet
+decided (r ∷ rs) sheet = refused r
+
+unfoldable pub afterFields : (bytes : List ℕ) → Read Sheet → Answer Sheet
+unfolding faults decided
+afterFields bytes (fault r) = refused r
+afterFields bytes (got sheet p) = decided (faults bytes p sheet) sheet
+
+-- A reader of a sheet: "a sheet has at most 1,024 bytes". 1: longer, which "comes first".
+unfoldable pub ofSheet : {A : Type 0} → Reader A → Reader A
+unfolding if_then_else_
+ofSheet m bytes p = if leb (length bytes) mostBytes then m bytes p else fault 1
+
+-- What the bytes are: a sheet, or a refusal.
+unfoldable pub reading : (bytes : List ℕ) → Answer Sheet
+unfolding ofSheet header actionList objective epistemic program _>>=_ give afterFields
+reading bytes = afterFields bytes (ofSheet sheetFields bytes 0)

@@ -1,0 +1,4 @@
+pub mod Syntax
+pub mod Truth
+pub mod Bits
+pub mod Format
