@@ -11,49 +11,73 @@ use borrow.Author.Needs.{needs}
 use Rattle.planverify.proofs.main.Statement.{statement}
 use Rattle.planverify.proofs.main.Tie as tie
 
-slice-aggregate-read-full : tie.Need-slice-aggregate-read-full
-slice-aggregate-read-full c = search needs
+slice-aggregate-read-input : tie.Need-slice-aggregate-read-input
+slice-aggregate-read-input c = search needs
 
-read-full-requires : tie.Need-read-full-requires
-read-full-requires c κs = search needs
+read-input-requires : tie.Need-read-input-requires
+read-input-requires c κs = search needs
 
-array-share-prefix-sheet : tie.Need-array-share-prefix-sheet
-array-share-prefix-sheet c = search needs
+slice-aggregate-lines-for : tie.Need-slice-aggregate-lines-for
+slice-aggregate-lines-for c = search needs
 
-slice-aggregate-print : tie.Need-slice-aggregate-print
-slice-aggregate-print c = search needs
+lines-for-requires : tie.Need-lines-for-requires
+lines-for-requires c κs = search needs
 
-print-requires : tie.Need-print-requires
-print-requires c κs = search needs
+enum-told : tie.Need-enum-told
+enum-told c = search needs
+
+slice-aggregate-tell : tie.Need-slice-aggregate-tell
+slice-aggregate-tell c = search needs
+
+tell-requires : tie.Need-tell-requires
+tell-requires c κs = search needs
+
+enum-told-2 : tie.Need-enum-told-2
+enum-told-2 c = search needs
 
 -- The lines fit the array, whose length stays.
 inside : (n : ℕ) (out lines written : List ℕ) → n ≤ 512 → written ≡ write out 0 lines → length out ≡ 512 → n ≤ length written
 inside n out lines written l e k = omega (arith, l, k, ap length e, write-length out 0 lines)
 
 array-share-prefix-out : tie.Need-array-share-prefix-out
-array-share-prefix-out c = inside _ _ _ _ (c .print .ensures .2) (c .print .ensures .1) (length-replicate {A = ℕ} 512 0)
+array-share-prefix-out c = let p = c .before .lines-for in inside _ _ _ _ (p .ensures .2) (p .ensures .1) (length-replicate {A = ℕ} 512 0)
 
 slice-aggregate-write-all : tie.Need-slice-aggregate-write-all
 slice-aggregate-write-all c =
-    let p = c .before .print in
-    sym (length-take-le (p .result) (p .last .1 .0) (inside _ _ _ _ (p .ensures .2) (p .ensures .1) (length-replicate {A = ℕ} 512 0)))
+    let p = c .before .before .lines-for in
+    sym (length-take-le (p .result) (p .last .1 .1 .0) (inside _ _ _ _ (p .ensures .2) (p .ensures .1) (length-replicate {A = ℕ} 512 0)))
 
 write-all-requires : tie.Need-write-all-requires
 write-all-requires c κs = search needs
 
+slice-aggregate-tell-2 : tie.Need-slice-aggregate-tell-2
+slice-aggregate-tell-2 c = search needs
+
+tell-requires-2 : tie.Need-tell-requires-2
+tell-requires-2 c κs = search needs
+
 returns : tie.Need-returns
 returns c = search needs
+
+returns-2 : tie.Need-returns-2
+returns-2 c = search needs
 
 pub main-spec : {M : Type 1} → statement M
 main-spec =
     tie.close
     (tie.spec
-    slice-aggregate-read-full
-    read-full-requires
-    array-share-prefix-sheet
-    slice-aggregate-print
-    print-requires
+    slice-aggregate-read-input
+    read-input-requires
+    slice-aggregate-lines-for
+    lines-for-requires
+    enum-told
+    slice-aggregate-tell
+    tell-requires
+    enum-told-2
     array-share-prefix-out
     slice-aggregate-write-all
     write-all-requires
-    returns)
+    slice-aggregate-tell-2
+    tell-requires-2
+    returns
+    returns-2)
