@@ -1,90 +1,130 @@
--- Laws of the answers of `read`, and of the lines for an input. Assumes nothing.
-use Prim.Native.Nat.{ℕ, zero, suc, _≤_, _<_}
+-- Laws of what follows a read, and of the lines for an input. Assumes nothing.
+use Prim.Native.Nat.{ℕ, zero, suc, _+_, _-_, _≤_, _<_}
 use mathlib.Core.Path.{_≡_, refl, sym, ap, _∙_, subst}
 use mathlib.Core.Bool.{Bool, true, false}
 use mathlib.Core.List.{List}
 use native.Mathlib.Omega.{arith}
-use lib.Dec.{T, ltb→lt}
+use lib.Dec.{T, ltb, ltb→lt}
 use lib.IntN.{ℤ, pos, negsuc, natAbs}
 use lib.Signed.{ltZ, nonNeg}
 use lib.ListN.{length, take}
 use mir.Syntax.{w64}
 use mir.Val.{SFits, Fits, ofZ, toZ}
 use mir.ValLaws.{ofZ-fits, toZ-ofZ}
+use borrow.Author.Tests.{lt-ltb, le-ltb}
+use Rattle.libc.specs.Io.{Moved}
+use Rattle.lists.specs.Lists.{if_then_else_}
 use Rattle.semantics.specs.Printing.{printed}
 use Rattle.routine.specs.Memory.{write}
-use Rattle.libc.specs.Io.{Moved}
-use Rattle.planverify.specs.declared.Piece.{Piece}
 use Rattle.planverify.specs.declared.Input.{Input}
-use Rattle.planverify.specs.Input.{pieceOf, Within, linesFor}
+use Rattle.planverify.specs.declared.Next.{Next}
+use Rattle.planverify.specs.Input.{afterRead, Within, linesFor}
 
 -- A test has one answer.
 one-answer : true ≡ false → ⊥
 one-answer e = subst T e tt
 
-negative : (z : ℤ) → ltZ z (pos 0) ≡ true → Piece.Failed ≡ pieceOf z
-unfolding pieceOf
-negative (pos n) t = absurd (omega (arith, ltb→lt n 0 (subst T (sym t) tt)))
-negative (negsuc k) t = refl
+-- Behind n bytes, by whether there is room for more.
+abbrev by-room : Bool → ℕ → Next
+unfolding if_then_else_
+by-room b n = if b then Next.More n else Next.Over (Input.Read n)
 
-none : (z : ℤ) → ltZ z (pos 0) ≡ false → ofZ w64 z ≡ 0 → Piece.End ≡ pieceOf z
-unfolding pieceOf
-none (pos zero) l e = refl
-none (pos (suc k)) l e = absurd (omega (arith, e))
-none (negsuc k) l e = absurd (one-answer l)
+-- The cases of `afterRead` as the code tells them apart.
+module _ (done most : ℕ) where
+  negative : (z : ℤ) → ltZ z (pos 0) ≡ true → Next.Over Input.Failed ≡ afterRead done most z
+  unfolding afterRead
+  negative (pos n) t = absurd (omega (arith, ltb→lt n 0 (subst T (sym t) tt)))
+  negative (negsuc k) t = refl
 
-positive : (z : ℤ) → ltZ z (pos 0) ≡ false → (ofZ w64 z ≡ 0 → ⊥) → Piece.Bytes (natAbs z) ≡ pieceOf z
-unfolding pieceOf
-positive (pos zero) l n = absurd (n refl)
-positive (pos (suc k)) l n = refl
-positive (negsuc k) l n = absurd (one-answer l)
+  none : (z : ℤ) → ltZ z (pos 0) ≡ false → ofZ w64 z ≡ 0 → Next.Over (Input.Read done) ≡ afterRead done most z
+  unfolding afterRead
+  none (pos zero) l e = refl
+  none (pos (suc k)) l e = absurd (omega (arith, e))
+  none (negsuc k) l e = absurd (one-answer l)
+
+  some : (z : ℤ) (b : Bool) → ltZ z (pos 0) ≡ false → (ofZ w64 z ≡ 0 → ⊥) → ltb (done + natAbs z) most ≡ b → by-room b (done + natAbs z) ≡ afterRead done most z
+  unfolding afterRead by-room
+  some (pos zero) b l n r = absurd (n refl)
+  some (pos (suc k)) b l n r = sym (ap (λ (a : Bool). by-room a (done + suc k)) r)
+  some (negsuc k) b l n r = absurd (one-answer l)
+
+  -- The bytes that `read` put lie within the room.
+  put : (z : ℤ) → ltZ z (pos 0) ≡ false → done ≤ most → Moved (most - done) z → done + natAbs z ≤ most
+  put (pos n) l d m = omega (arith, d, m)
+  put (negsuc k) l d m = absurd (one-answer l)
 
 fitting : (z : ℤ) → SFits w64 z → ltZ z (pos 0) ≡ false → T (nonNeg z) × Fits w64 (natAbs z)
 fitting (pos n) f l = (tt, ofZ-fits w64 (pos n) f)
 fitting (negsuc k) f l = absurd (one-answer l)
 
 -- The same of the number that is read back from the bits of a local.
-module _ (z : ℤ) (f : SFits w64 z) where
-  back : toZ w64 (ofZ w64 z) ≡ z
+module _ (done most : ℕ) (z : ℤ) (f : SFits w64 z) where
+  abbrev held : ℤ
+  held = toZ w64 (ofZ w64 z)
+
+  back : held ≡ z
   back = toZ-ofZ w64 z f
 
-  below : (b : Bool) → ltZ (toZ w64 (ofZ w64 z)) (pos 0) ≡ b → ltZ z (pos 0) ≡ b
+  below : (b : Bool) → ltZ held (pos 0) ≡ b → ltZ z (pos 0) ≡ b
   below b t = sym (ap (λ (y : ℤ). ltZ y (pos 0)) back) ∙ t
 
-  pub piece-failed : ltZ (toZ w64 (ofZ w64 z)) (pos 0) ≡ true → Piece.Failed ≡ pieceOf z
-  piece-failed t = negative z (below true t)
+  pub after-failed : ltZ held (pos 0) ≡ true → Next.Over Input.Failed ≡ afterRead done most z
+  after-failed t = negative done most z (below true t)
 
-  pub piece-end : ltZ (toZ w64 (ofZ w64 z)) (pos 0) ≡ false → ofZ w64 z ≡ 0 → Piece.End ≡ pieceOf z
-  piece-end l e = none z (below false l) e
+  pub after-end : ltZ held (pos 0) ≡ false → ofZ w64 z ≡ 0 → Next.Over (Input.Read done) ≡ afterRead done most z
+  after-end l e = none done most z (below false l) e
 
-  pub piece-bytes : ltZ (toZ w64 (ofZ w64 z)) (pos 0) ≡ false → (ofZ w64 z ≡ 0 → ⊥) → Piece.Bytes (natAbs (toZ w64 (ofZ w64 z))) ≡ pieceOf z
-  piece-bytes l n = ap (λ (y : ℤ). Piece.Bytes (natAbs y)) back ∙ positive z (below false l) n
+  pub after-fits : ltZ held (pos 0) ≡ false → T (nonNeg held) × Fits w64 (natAbs held)
+  after-fits l = subst (λ (y : ℤ). T (nonNeg y) × Fits w64 (natAbs y)) (sym back) (fitting z f (below false l))
 
-  pub piece-fits : ltZ (toZ w64 (ofZ w64 z)) (pos 0) ≡ false → T (nonNeg (toZ w64 (ofZ w64 z))) × Fits w64 (natAbs (toZ w64 (ofZ w64 z)))
-  piece-fits l = subst (λ (y : ℤ). T (nonNeg y) × Fits w64 (natAbs y)) (sym back) (fitting z f (below false l))
+  pub after-put : ltZ held (pos 0) ≡ false → done ≤ most → Moved (most - done) z → done + natAbs held ≤ most
+  after-put l d m = subst (λ (y : ℤ). done + natAbs y ≤ most) (sym back) (put done most z (below false l) d m)
 
--- How many bytes a piece has, and whether it has some.
-abbrev count : Piece → ℕ
-count (Piece.Bytes n) = n
-count Piece.End = 0
-count Piece.Failed = 0
+  by : (b : Bool) → ltZ held (pos 0) ≡ false → (ofZ w64 z ≡ 0 → ⊥) → ltb (done + natAbs held) most ≡ b → by-room b (done + natAbs held) ≡ afterRead done most z
+  by b l n r =
+      ap (λ (y : ℤ). by-room b (done + natAbs y)) back
+      ∙ some done most z b (below false l) n (ap (λ (y : ℤ). ltb (done + natAbs y) most) (sym back) ∙ r)
 
-abbrev some : Piece → Bool
-some (Piece.Bytes n) = true
-some Piece.End = false
-some Piece.Failed = false
+  pub after-more : ltZ held (pos 0) ≡ false → (ofZ w64 z ≡ 0 → ⊥) → done + natAbs held < most → Next.More (done + natAbs held) ≡ afterRead done most z
+  unfolding by-room
+  after-more l n r = by true l n (lt-ltb (done + natAbs held) most r)
 
-moved : (room : ℕ) (z : ℤ) (n : ℕ) → Moved room z → pieceOf z ≡ Piece.Bytes n → (0 < n) × (n ≤ room)
-unfolding pieceOf
-moved room (pos zero) n m e = absurd (one-answer (sym (ap some e)))
-moved room (pos (suc k)) n m e = let h : suc k ≡ n = ap count e in (omega (arith, h), omega (arith, h, m))
-moved room (negsuc k) n m e = absurd (one-answer (sym (ap some e)))
+  pub after-full : ltZ held (pos 0) ≡ false → (ofZ w64 z ≡ 0 → ⊥) → most ≤ done + natAbs held → Next.Over (Input.Read (done + natAbs held)) ≡ afterRead done most z
+  unfolding by-room
+  after-full l n r = by false l n (le-ltb (done + natAbs held) most r)
 
--- The bytes that `read` put: at least one, and no more than there was room for.
-pub piece-within :
-    (room lent : ℕ) (z : ℤ) (n : ℕ) (p : Piece) → room ≡ lent → SFits w64 z → Moved lent z → p ≡ pieceOf (toZ w64 (ofZ w64 z)) → p ≡ Piece.Bytes n →
-    (0 < n) × (n ≤ room)
-piece-within room lent z n p l f m a e = let w = moved lent z n m (sym (ap pieceOf (back z f)) ∙ sym a ∙ e) in (w .0, omega (arith, w .1, l))
+-- Reading goes on behind more bytes, within the room; what it ends with lies within the room too.
+abbrev Right : (done most : ℕ) → Next → Type 0
+Right done most (Next.More n) = (done < n) × (n ≤ most)
+Right done most (Next.Over i) = Within i most
+
+right : (done most : ℕ) (z : ℤ) → done ≤ most → Moved (most - done) z → Right done most (afterRead done most z)
+unfolding afterRead Within by-room
+right done most (negsuc k) d m = tt
+right done most (pos zero) d m = d
+right done most (pos (suc k)) d m = go (ltb (done + suc k) most)
+  where
+    go : (b : Bool) → Right done most (by-room b (done + suc k))
+    go true = (omega arith, omega (arith, d, m))
+    go false = omega (arith, d, m)
+
+module _ (done most : ℕ) (z : ℤ) (x : Next) (h : (done ≤ most) × Moved (most - done) z) (e : x ≡ afterRead done most z) where
+  answered : Right done most x
+  answered = subst (Right done most) (sym e) (right done most z (h .0) (h .1))
+
+  pub next-more : (n : ℕ) → x ≡ Next.More n → (done < n) × (n ≤ most)
+  next-more n g = subst (Right done most) g answered
+
+  pub next-over : (i : Input) → x ≡ Next.Over i → Within i most
+  next-over i g = subst (Right done most) g answered
+
+-- What `read` answers for the rest of a slice, whose length it leaves.
+pub rest-moved :
+    (done old new rest : ℕ) (z : ℤ) → done ≤ old → new ≡ old → old - done ≡ rest → SFits w64 z → Moved rest z →
+    (done ≤ new) × Moved (new - done) (toZ w64 (ofZ w64 z))
+rest-moved done old new rest z d n r f m =
+    let e : rest ≡ new - done = omega (arith, n, r) in
+    (omega (arith, d, n), subst (λ (y : ℤ). Moved (new - done) y) (sym (toZ-ofZ w64 z f)) (subst (λ (k : ℕ). Moved k z) e m))
 
 -- The lines for an input that was read.
 pub within-read : (i : Input) (n room : ℕ) → Within i room → i ≡ Input.Read n → n ≤ room

@@ -5,38 +5,44 @@ use libc::STDIN_FILENO;
 use libc::STDOUT_FILENO;
 use printing::LINES;
 ghost use mathlib.Core.Path.{_≡_};
-ghost use Prim.Native.Nat.{_≤_};
+ghost use Prim.Native.Nat.{_≤_, _-_};
 ghost use lib.ListN.{length};
+ghost use Rattle.libc.specs.Io.{Moved};
 ghost use Rattle.routine.specs.Memory.{write};
-ghost use Rattle.planverify.specs.Input.{pieceOf, Within, linesFor};
+ghost use Rattle.planverify.specs.Input.{afterRead, Within, linesFor};
 
 // One byte more than a sheet may have, so that a longer input is refused.
 const MOST: usize = 1025;
 
-// What a call of `read` found: bytes, at least one, the end of the input, or an error.
-enum Piece {
-    Bytes(usize),
-    End,
-    Failed,
-}
-
-// The whole input, or as much of it as there is room for; or it couldn't be read.
+// The input: so many bytes, to its end or as many as there is room for; or it couldn't be read.
 enum Input {
     Read(usize),
     Failed,
 }
 
-// What an answer of `read` means. The libraries can't tell a call that a signal interrupted: it counts as failed.
-fn piece_of(got: isize) -> Piece
-    ensures { λ r. ⌜ r ≡ pieceOf got ⌝ }
+// What follows a call of `read`: another one behind so many bytes, or reading is over.
+enum Next {
+    More(usize),
+    Over(Input),
+}
+
+// What follows a call of `read` for `most - done` bytes behind `done` that answered `got`. One that a signal interrupts counts as
+// failed: the program handles no signal, and telling it apart takes `errno`, which only C code behind further axioms can read.
+fn after(done: usize, most: usize, got: isize) -> Next
+    requires { ⌜ (done ≤ most) × Moved (most - done) got ⌝ }
+    ensures { λ r. ⌜ r ≡ afterRead done most got ⌝ }
 {
     if got < 0 {
-        return Piece::Failed;
+        return Next::Over(Input::Failed);
     }
     if got == 0 {
-        return Piece::End;
+        return Next::Over(Input::Read(done));
     }
-    Piece::Bytes(got as usize)
+    let n = done + got as usize;
+    if n < most {
+        return Next::More(n);
+    }
+    Next::Over(Input::Read(n))
 }
 
 // Reads standard input to its end, or until `sheet` is full.
@@ -44,24 +50,21 @@ fn read_input(sheet: &mut [u8]) -> Input
     ensures { λ r. ⌜ Within r (length (now (sheet .exit))) ⌝ }
 {
     let mut done = 0;
-    while done < sheet.len() {
-        let piece = piece_of(libc::read(STDIN_FILENO, &mut sheet[done..]));
-        match piece {
-            Piece::Bytes(n) => {
-                done += n;
+    loop {
+        let got = libc::read(STDIN_FILENO, &mut sheet[done..]);
+        let next = after(done, sheet.len(), got);
+        match next {
+            Next::More(n) => {
+                done = n;
             }
-            Piece::End => {
-                return Input::Read(done);
-            }
-            Piece::Failed => {
-                return Input::Failed;
+            Next::Over(input) => {
+                return input;
             }
         }
     }
-    Input::Read(done)
 }
 
-// Writes the lines for an input into `out`, and gives their length: none for one that couldn't be read.
+// Writes the lines for the input into `out`, and gives their length. There are none if it couldn't be read.
 fn lines_for(input: Input, sheet: &[u8], out: &mut [u8; LINES]) -> usize
     requires { ⌜ Within input (length (now sheet)) ⌝ }
     ensures { λ r. ⌜ (r ≡ length (linesFor input (now (sheet .entry)))) × (now (out .exit) ≡ write (now (out .entry)) 0 (linesFor input (now (sheet .entry)))) × (r ≤ 512) ⌝ }
