@@ -3,9 +3,13 @@
 mod common;
 
 use std::collections::BTreeMap;
-use std::fs;
-use std::io::Write;
-use std::path::PathBuf;
+use std::fs::{self, File};
+use std::io::{self, PipeReader, PipeWriter, Write};
+use std::os::fd::{AsRawFd, OwnedFd};
+use std::os::unix::fs::OpenOptionsExt;
+use std::os::unix::net::UnixStream;
+use std::os::unix::process::ExitStatusExt;
+use std::path::{Path, PathBuf};
 use std::process::{Child, Command, Output, Stdio};
 use std::sync::atomic::{AtomicUsize, Ordering};
 use std::sync::{LazyLock, Mutex};
@@ -37,20 +41,34 @@ fn program() -> PathBuf {
 }
 
 fn started() -> Child {
+    started_from(Stdio::piped())
+}
+
+/// The program, running on this standard input.
+fn started_from(input: impl Into<Stdio>) -> Child {
     Command::new(program())
-        .stdin(Stdio::piped())
+        .stdin(input)
         .stdout(Stdio::piped())
         .stderr(Stdio::piped())
         .spawn()
         .expect("planverify starts")
 }
 
+/// What it says on standard error where a read or a write fails.
+const UNREAD: &str = "planverify: the input could not be read\n";
+const UNWRITTEN: &str = "planverify: the answer could not be written\n";
+
+/// What it wrote to standard output and to standard error. It must end well.
+fn said(output: Output) -> [String; 2] {
+    assert!(output.status.success(), "{}", output.status);
+    [output.stdout, output.stderr].map(|bytes| String::from_utf8(bytes).expect("ASCII"))
+}
+
 /// What it printed. It must end well and print nothing on standard error.
 fn printed(output: Output) -> String {
-    let text = |bytes| String::from_utf8(bytes).expect("ASCII");
-    assert_eq!(text(output.stderr), "");
-    assert!(output.status.success(), "{}", output.status);
-    text(output.stdout)
+    let [lines, message] = said(output);
+    assert_eq!(message, "");
+    lines
 }
 
 /// What it prints for a sheet that is written in these pieces, with a pause before each.
@@ -120,6 +138,12 @@ fn unhex(text: &str) -> Vec<u8> {
         .chunks_exact(2)
         .map(|pair| 16 * pair[0] + pair[1])
         .collect()
+}
+
+/// A sample sheet.
+fn sample(number: &str) -> Vec<u8> {
+    let path = root().join("samples").join(number).with_extension("hex");
+    unhex(&fs::read_to_string(path).expect("a text file"))
 }
 
 /// The sample sheets and what has to be printed for them.
@@ -193,17 +217,7 @@ fn cut_anywhere() {
 #[test]
 fn nothing_on_standard_input() {
     assert_eq!(planverify(&[]), "refused 2\n");
-    let closed = Command::new("sh")
-        .args(["-c", "exec \"$0\" <&-"])
-        .arg(program())
-        .output()
-        .expect("sh starts");
-    assert_eq!(printed(closed), "refused 2\n");
-    let null = Command::new(program())
-        .stdin(Stdio::null())
-        .output()
-        .expect("planverify starts");
-    assert_eq!(printed(null), "refused 2\n");
+    assert_eq!(printed(output_from(Stdio::null())), "refused 2\n");
 }
 
 #[test]
@@ -259,4 +273,219 @@ fn long_input() {
         assert_eq!(planverify(&vec![byte; MAX_BYTES + 1]), "refused 1\n");
         assert_eq!(planverify(&vec![byte; 1 << 20]), "refused 1\n");
     }
+}
+
+/// Its output for this standard input.
+fn output_from(input: impl Into<Stdio>) -> Output {
+    started_from(input)
+        .wait_with_output()
+        .expect("planverify ends")
+}
+
+/// A shell that runs a script with the program as `$0`.
+fn shell(script: &str) -> Command {
+    let mut command = Command::new("sh");
+    command.args(["-c", script]).arg(program());
+    command
+}
+
+/// A pipe that holds the sheet of case 1, for which `valid 2` is printed, without its
+/// last `left` bytes and with the other end still open.
+fn filled_pipe(left: usize) -> (PipeReader, PipeWriter) {
+    let sheet = sample("01");
+    let (reader, mut writer) = io::pipe().expect("a pipe");
+    let length = sheet.len() - left;
+    writer.write_all(&sheet[..length]).expect("room");
+    (reader, writer)
+}
+
+/// The same pipe opened once more, so that reads of it don't wait.
+fn non_blocking(reader: &PipeReader) -> File {
+    const O_NONBLOCK: i32 = 0o4000;
+    File::options()
+        .read(true)
+        .custom_flags(O_NONBLOCK)
+        .open(format!("/proc/self/fd/{}", reader.as_raw_fd()))
+        .expect("the pipe")
+}
+
+#[test]
+fn non_blocking_pipe() {
+    let length = sample("01").len();
+    for left in [0, 1, length] {
+        let (reader, mut writer) = filled_pipe(left);
+        let output = output_from(non_blocking(&reader));
+        assert_eq!(said(output), ["", UNREAD], "{left} bytes left");
+        // It was no end: one byte more arrives.
+        writer.write_all(&[0]).expect("room");
+    }
+    // All bytes and the end are there, or more bytes than a sheet may have.
+    let (reader, writer) = filled_pipe(0);
+    drop(writer);
+    assert_eq!(printed(output_from(non_blocking(&reader))), "valid 2\n");
+    let (reader, mut writer) = filled_pipe(0);
+    writer.write_all(&[0; MAX_BYTES]).expect("room");
+    assert_eq!(printed(output_from(non_blocking(&reader))), "refused 1\n");
+}
+
+/// Two sockets that are connected; a read of the second waits no longer than this.
+fn sockets(timeout: Duration) -> (UnixStream, OwnedFd) {
+    let (ours, theirs) = UnixStream::pair().expect("two sockets");
+    theirs.set_read_timeout(Some(timeout)).expect("a timeout");
+    (ours, OwnedFd::from(theirs))
+}
+
+#[test]
+fn socket_with_a_receive_timeout() {
+    let timeout = Duration::from_millis(50);
+    let (mut ours, theirs) = sockets(timeout);
+    ours.write_all(&sample("01")).expect("room");
+    assert_eq!(said(output_from(theirs)), ["", UNREAD]);
+    let (mut ours, theirs) = sockets(timeout);
+    ours.write_all(&sample("01")).expect("room");
+    drop(ours);
+    assert_eq!(printed(output_from(theirs)), "valid 2\n");
+}
+
+#[test]
+fn input_that_cannot_be_read() {
+    let directory = File::open(root()).expect("a directory");
+    assert_eq!(said(output_from(directory)), ["", UNREAD]);
+    let write_only = File::options().write(true).open("/dev/null");
+    assert_eq!(said(output_from(write_only.unwrap())), ["", UNREAD]);
+    let closed = shell("exec \"$0\" <&-").output().expect("sh starts");
+    assert_eq!(said(closed), ["", UNREAD]);
+    let closed = shell("exec \"$0\" <&- 2>&-").output().expect("sh starts");
+    assert_eq!(said(closed), ["", ""]);
+}
+
+/// A shell's output with the sheet of a sample on its standard input.
+fn on_sample(mut shell: Command, number: &str) -> Output {
+    let mut child = shell
+        .stdin(Stdio::piped())
+        .stderr(Stdio::piped())
+        .spawn()
+        .expect("sh starts");
+    let mut input = child.stdin.take().expect("a pipe");
+    input.write_all(&sample(number)).expect("room");
+    drop(input);
+    child.wait_with_output().expect("it ends")
+}
+
+#[test]
+fn output_that_cannot_be_written() {
+    for number in ["01", "02"] {
+        for to in [">&-", ">/dev/full", "1</dev/null"] {
+            let output = on_sample(shell(&format!("exec \"$0\" {to}")), number);
+            assert_eq!(said(output), ["", UNWRITTEN], "{to}");
+        }
+        let neither = on_sample(shell("exec \"$0\" >/dev/full 2>/dev/full"), number);
+        assert_eq!(said(neither), ["", ""]);
+    }
+    let unread = shell("exec \"$0\" <&- >/dev/full").output();
+    assert_eq!(said(unread.expect("sh starts")), ["", UNREAD]);
+}
+
+#[test]
+fn pipe_that_nobody_reads() {
+    let unread = || io::pipe().expect("a pipe").1;
+    let mut ignoring = shell("trap '' PIPE; exec \"$0\"");
+    ignoring.stdout(unread());
+    assert_eq!(said(on_sample(ignoring, "01")), ["", UNWRITTEN]);
+    // The system ends it, so that its status tells.
+    let mut plain = shell("exec \"$0\"");
+    plain.stdout(unread());
+    assert!(!on_sample(plain, "01").status.success());
+}
+
+/// Runs it on the sheet of a sample with files limited in size, its output appended
+/// to a file that has room for so many bytes more. Gives what it wrote there, too.
+fn limited(number: &str, room: u64, ignore: &str, path: &Path) -> (Output, String) {
+    const LIMIT: &str = "ulimit -f 1";
+    // Its size is the limit then, whatever a shell takes as a block.
+    let fill = format!("trap '' XFSZ; {LIMIT}; head -c 99999 /dev/zero >\"$1\" 2>/dev/null");
+    shell(&fill).arg(path).status().expect("sh starts");
+    let file = File::options().write(true).open(path).expect("a file");
+    let length = file.metadata().expect("a length").len() - room;
+    file.set_len(length).expect("a shorter file");
+    let mut command = shell(&format!("{ignore} {LIMIT}; exec \"$0\" >>\"$1\""));
+    command.arg(path);
+    let output = on_sample(command, number);
+    let written = fs::read(path).expect("a file").split_off(length as usize);
+    (output, String::from_utf8(written).expect("ASCII"))
+}
+
+#[test]
+fn limited_file_size() {
+    let path = Path::new(env!("CARGO_TARGET_TMPDIR")).join("limited");
+    for (number, lines) in [("01", "valid 2\n"), ("02", "invalid 2 1\n00 01 00\n")] {
+        for room in 0..=lines.len() {
+            let (output, written) = limited(number, room as u64, "trap '' XFSZ;", &path);
+            let message = if room < lines.len() { UNWRITTEN } else { "" };
+            assert_eq!(said(output), ["", message], "room for {room} bytes");
+            assert_eq!(written, lines[..room]);
+        }
+        for room in [0, 7] {
+            // The system ends it, unless whoever runs the test ignores the signal.
+            const SIGXFSZ: i32 = 25;
+            let (output, written) = limited(number, room as u64, "", &path);
+            let ended = output.status.signal() == Some(SIGXFSZ);
+            assert!(ended || said(output) == ["", UNWRITTEN]);
+            assert_eq!(written, lines[..room]);
+        }
+    }
+    fs::remove_file(&path).expect("the file");
+}
+
+/// As README.md says.
+#[test]
+fn asked_by_a_script() {
+    const ASK: &str = "\"$0\" | grep -q '^valid '";
+    let mut valid = 0;
+    for (sheet, lines) in samples() {
+        let mut child = shell(ASK).stdin(Stdio::piped()).spawn().expect("sh starts");
+        let mut input = child.stdin.take().expect("a pipe");
+        // It may have gone after 1,025 bytes.
+        let _ = input.write_all(&sheet);
+        drop(input);
+        let status = child.wait().expect("sh ends");
+        assert_eq!(status.success(), lines.starts_with("valid "));
+        valid += usize::from(status.success());
+    }
+    assert!((1..17).contains(&valid));
+    let (reader, _writer) = filled_pipe(0);
+    let output = shell(ASK).stdin(non_blocking(&reader)).output();
+    assert!(!output.expect("sh starts").status.success());
+}
+
+/// Stops it while it waits for input, and lets it go on.
+fn stop_for_a_moment(child: &Child) {
+    thread::sleep(Duration::from_millis(50));
+    let script = format!("kill -STOP {0}; kill -CONT {0}", child.id());
+    let status = Command::new("sh").args(["-c", &script]).status();
+    assert!(status.expect("sh starts").success());
+}
+
+/// A stop interrupts no read of a pipe. It interrupts one of a socket with a
+/// timeout, which counts as failed.
+#[test]
+fn stopped_and_continued() {
+    let mut child = started();
+    let mut input = child.stdin.take().expect("a pipe");
+    for byte in sample("01") {
+        stop_for_a_moment(&child);
+        input.write_all(&[byte]).expect("room");
+    }
+    drop(input);
+    let output = child.wait_with_output().expect("planverify ends");
+    assert_eq!(printed(output), "valid 2\n");
+
+    let (mut ours, theirs) = sockets(Duration::from_secs(100));
+    ours.write_all(&sample("01")).expect("room");
+    let mut child = started_from(theirs);
+    while child.try_wait().expect("a child").is_none() {
+        stop_for_a_moment(&child);
+    }
+    let output = child.wait_with_output().expect("planverify ends");
+    assert_eq!(said(output), ["", UNREAD]);
 }
