@@ -4,7 +4,7 @@ mod common;
 
 use std::collections::BTreeMap;
 use std::fs::{self, File};
-use std::io::{self, PipeReader, PipeWriter, Write};
+use std::io::{self, PipeReader, PipeWriter, Read, Write};
 use std::os::fd::{AsRawFd, OwnedFd};
 use std::os::unix::fs::OpenOptionsExt;
 use std::os::unix::net::UnixStream;
@@ -273,6 +273,15 @@ fn long_input() {
         assert_eq!(planverify(&vec![byte; MAX_BYTES + 1]), "refused 1\n");
         assert_eq!(planverify(&vec![byte; 1 << 20]), "refused 1\n");
     }
+    // It leaves what it needn't read.
+    let (mut reader, mut writer) = io::pipe().expect("a pipe");
+    writer.write_all(&[0; MAX_BYTES + 10]).expect("room");
+    drop(writer);
+    let input = reader.try_clone().expect("the pipe");
+    assert_eq!(printed(output_from(input)), "refused 1\n");
+    let mut rest = Vec::new();
+    reader.read_to_end(&mut rest).expect("the rest");
+    assert_eq!(rest.len(), 9);
 }
 
 /// Its output for this standard input.
