@@ -6,8 +6,8 @@ use recovery::read::read;
 use recovery::sheet::{Action, Epistemic, Objective, Program, Sheet, MAX_BYTES};
 
 use crate::theories::{
-    all, balanced, denied_early, news, not_last, only_last, parity, stays, stays_or_zero, toggles,
-    trues, unneeded,
+    all, balanced, denied_early, news, not_last, only_last, parity, sevens, stays, stays_or_zero,
+    toggles, tree, trues, unneeded,
 };
 use crate::SAMPLE_1;
 
@@ -71,7 +71,7 @@ pub fn read_sheets() -> Vec<Named> {
         ],
     );
     sheets.extend(many_changes());
-    sheets.extend((1..=6).flat_map(fewer_facts));
+    sheets.extend((1..=8).flat_map(by_facts));
     sheets.extend([4, 5, 6, 8].into_iter().flat_map(one_change));
     sheets.extend((1..=8).map(worst_ratio));
     sheets.extend(worst_times());
@@ -88,10 +88,6 @@ fn many_changes() -> Vec<Named> {
             (
                 "each fact stays, denied early",
                 sheet(|k| denied_early(8, trues(k))),
-            ),
-            (
-                "each fact stays, a long part unneeded",
-                sheet(|k| stays(8).and(unneeded(trues(k)))),
             ),
             (
                 "each fact stays, or the old state was 0",
@@ -115,7 +111,7 @@ fn many_changes() -> Vec<Named> {
     )
 }
 
-fn fewer_facts(facts: u8) -> Vec<Named> {
+fn by_facts(facts: u8) -> Vec<Named> {
     let early = |k| denied_early(facts, unneeded(trues(k)));
     let long = longest(facts, MOST, early);
     let stuck = stays(facts).and(not_last(facts));
@@ -126,7 +122,7 @@ fn fewer_facts(facts: u8) -> Vec<Named> {
             ("each fact stays", changes(facts, MOST, stays(facts))),
             ("each fact stays, a long part unneeded", long.clone()),
             (
-                "the same, refused in the last state",
+                "the same, refused in the last state of the last",
                 with_last(&long, stuck),
             ),
         ],
@@ -161,10 +157,10 @@ fn one_change(facts: u8) -> Vec<Named> {
     )
 }
 
-/// The worst found for the ratio to Rust: state 0 always follows, and Rust finds it
-/// by the first part.
+/// The worst found for the ratio to Rust: state 0 always follows, which Rust finds
+/// by the first part; and the shape is the one that costs the proved reader most.
 fn worst_ratio(facts: u8) -> Named {
-    let theory = |k| unneeded(news(facts, k, Objective::and));
+    let theory = |k| unneeded(sevens(&news(facts, k)));
     let name = format!("{facts} facts, 1 change: true, or new facts in no order");
     (name, longest(facts, 1, theory))
 }
@@ -175,7 +171,7 @@ fn worst_times() -> Vec<Named> {
     let late = all((4..8).rev().map(Objective::New));
     let sheet = |join| {
         longest_of(|k| {
-            let long = only_last(8).and(unneeded(news(8, k, join)));
+            let long = only_last(8).and(unneeded(tree(&news(8, k), join)));
             let mut theories = vec![late.clone(); MOST - 1];
             theories.push(long);
             sheet_of(8, theories)
@@ -201,8 +197,9 @@ fn refused() -> Vec<Named> {
     let mut no_start = read(&long).unwrap();
     no_start.start = Objective::False;
     let to_last = longest(8, MOST, |k| trues(k).and(only_last(8)));
-    let stuck_late = |k| not_last(8).and(unneeded(news(8, k, Objective::and)));
-    let stuck_early = |k| Objective::False.and(news(8, k, Objective::and));
+    let ands = |k| tree(&news(8, k), Objective::and);
+    let stuck_late = |k| not_last(8).and(unneeded(ands(k)));
+    let stuck_early = |k| Objective::False.and(ands(k));
     named(
         "refused: ",
         [
@@ -252,10 +249,12 @@ fn longest(facts: u8, count: usize, theory: impl Fn(usize) -> Objective) -> Vec<
 /// The longest of a series of sheets that has at most 1,024 bytes.
 fn longest_of(sheet: impl Fn(usize) -> Sheet) -> Vec<u8> {
     // No more leaves fit a sheet: each takes a tag, and so does what joins it.
-    let all = (2..8 * MAX_BYTES / 6).map(|k| encode(&sheet(k)));
-    all.take_while(|bytes| bytes.len() <= MAX_BYTES)
-        .last()
-        .unwrap()
+    let sheets = (2..8 * MAX_BYTES / 6).map(|k| encode(&sheet(k)));
+    let fitting = sheets.take_while(|bytes| bytes.len() <= MAX_BYTES);
+    let longest = fitting.last().unwrap();
+    // Its theories are tested, none of them being too deep.
+    assert!([0, 14].contains(&linked::read(&longest)));
+    longest
 }
 
 /// The sheet with another theory for its last action.

@@ -47,12 +47,18 @@ pub fn trues(leaves: usize) -> Objective {
     tree(&vec![Objective::True; leaves], Objective::and)
 }
 
-/// So many new facts, in a tree of few levels. No order of theirs can be foreseen,
-/// and a reader that tells facts apart by branches pays for that.
-pub fn news(facts: u8, leaves: usize, join: fn(Objective, Objective) -> Objective) -> Objective {
+/// So many new facts in no order, so that no processor foresees the next.
+pub fn news(facts: u8, count: usize) -> Vec<Objective> {
     let mut random = Random::new(1);
-    let mut new = || Objective::New(random.below(facts.into()) as u8);
-    tree(&(0..leaves).map(|_| new()).collect::<Vec<_>>(), join)
+    let new = |_| Objective::New(random.below(facts.into()) as u8);
+    (0..count).map(new).collect()
+}
+
+/// The formulas joined by "and": seven each, one behind the other, and these in a
+/// tree of few levels.
+pub fn sevens(formulas: &[Objective]) -> Objective {
+    let groups = formulas.chunks(7).map(|group| all(group.iter().cloned()));
+    tree(&groups.collect::<Vec<_>>(), Objective::and)
 }
 
 /// An equivalence of so many pairs of a new fact and a fact.
@@ -73,7 +79,8 @@ pub fn balanced(formulas: &[Epistemic]) -> Epistemic {
     tree(formulas, Epistemic::and)
 }
 
-fn tree<F: Clone>(formulas: &[F], join: fn(F, F) -> F) -> F {
+/// The formulas joined in a tree of few levels.
+pub fn tree<F: Clone>(formulas: &[F], join: fn(F, F) -> F) -> F {
     match formulas {
         [formula] => formula.clone(),
         _ => {
