@@ -15,7 +15,7 @@ pub fn toggles(facts: u8) -> Objective {
     all((0..facts).map(|i| Objective::New(i).iff(Objective::Fact(i).negate())))
 }
 
-/// Each fact stays, or the old state was 0: every next state serves two states.
+/// Each fact stays, or the old state was 0: every next state serves state 0 too.
 pub fn stays_or_zero(facts: u8) -> Objective {
     let zero = all((0..facts).map(|i| Objective::Fact(i).negate()));
     stays(facts).or(zero)
@@ -47,7 +47,7 @@ pub fn trues(leaves: usize) -> Objective {
     tree(&vec![Objective::True; leaves], Objective::and)
 }
 
-/// So many new facts in no order, so that no processor foresees the next.
+/// So many new facts in no order, which took longer to tell apart than in any.
 pub fn news(facts: u8, count: usize) -> Vec<Objective> {
     let mut random = Random::new(1);
     let new = |_| Objective::New(random.below(facts.into()) as u8);
