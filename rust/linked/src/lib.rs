@@ -89,6 +89,8 @@ extern "C" {
 
 #[cfg(feature = "before")]
 extern "C" {
+    fn before_read(bytes: *const u8, length: usize) -> u8;
+
     fn before_verify(
         bytes: *const u8,
         length: usize,
@@ -98,6 +100,9 @@ extern "C" {
         verdict: &mut [u64; 3],
     ) -> u8;
 }
+
+/// `recovery_read`, or that of an earlier commit.
+type LinkedRead = unsafe extern "C" fn(*const u8, usize) -> u8;
 
 /// `recovery_verify`, or that of an earlier commit.
 type LinkedVerify =
@@ -158,11 +163,21 @@ fn boxed<T: std::fmt::Debug, const N: usize>(mut element: impl FnMut() -> T) -> 
 
 /// 0 for an accepted sheet, else the number of its refusal.
 pub fn read(bytes: &[u8]) -> u8 {
-    // SAFETY: the function has no precondition and reads only these bytes.
-    unsafe { recovery_read(bytes.as_ptr(), bytes.len()) }
+    answer_by(recovery_read, bytes)
 }
 
-/// The same, and writes an accepted sheet's tables and start set.
+/// The same by the library of an earlier commit.
+#[cfg(feature = "before")]
+pub fn read_before(bytes: &[u8]) -> u8 {
+    answer_by(before_read, bytes)
+}
+
+fn answer_by(read: LinkedRead, bytes: &[u8]) -> u8 {
+    // SAFETY: the function has no precondition and reads only these bytes.
+    unsafe { read(bytes.as_ptr(), bytes.len()) }
+}
+
+/// `read`'s answer, and writes an accepted sheet's tables and start set.
 pub fn prepare(bytes: &[u8], tables: &mut Tables, start: &mut Words) -> u8 {
     // SAFETY: the function has no precondition and touches only this memory.
     unsafe {

@@ -3,13 +3,15 @@
 //! Each line gives the least time of a call for each, and the quotients. Run it
 //! in release mode; an argument chooses one of the sections "reading", "tables",
 //! "steps", "verifying", "growth" and "runner". Behind "growth" the path of a
-//! picture to write may follow. With the feature `before` the proved verifier of an
-//! earlier commit is timed too.
+//! picture to write may follow. With the feature `before` the proved reader and
+//! verifier of an earlier commit are timed too.
 
 mod growth;
 mod picture;
+mod reading;
 mod routines;
 mod sheets;
+mod theories;
 mod verifying;
 
 use std::hint::black_box;
@@ -25,7 +27,7 @@ use recovery::step::{gather, keep};
 use recovery::truth::holds_knowing;
 
 use routines::verified_sheets;
-use sheets::{balanced, stays};
+use theories::{balanced, stays};
 
 /// The budget of `planverify`.
 const BUDGET: u32 = 1_000_000;
@@ -36,13 +38,15 @@ fn main() {
     let section = std::env::args().nth(1);
     let wanted = |name: &str| section.as_deref().is_none_or(|section| section == name);
     if wanted("reading") {
-        sheet_heading("reading", "answer");
-        for (name, bytes) in sheets::sheets() {
-            reading_row(&name, &bytes);
-        }
+        println!("reading, 8 facts where none are named");
+        reading::rows();
     }
     if wanted("tables") {
-        sheet_heading("\nreading and tables", "sets");
+        println!("\nreading and tables");
+        println!(
+            "{:<66} {:>5} {:>6} {:>11} {:>11} {:>7}",
+            "sheet", "bytes", "sets", "proved ns", "Rust ns", "ratio"
+        );
         for (name, bytes) in sheets::prepared_sheets() {
             prepare_row(&name, &bytes);
         }
@@ -74,31 +78,6 @@ fn main() {
         println!("\nthe runner at the last action of a run, 8 facts where none are named");
         runner_rows();
     }
-}
-
-fn sheet_heading(title: &str, told: &str) {
-    println!("{title}");
-    println!(
-        "{:<66} {:>5} {told:>6} {:>11} {:>11} {:>7}",
-        "sheet", "bytes", "proved ns", "Rust ns", "ratio"
-    );
-}
-
-fn reading_row(name: &str, bytes: &[u8]) {
-    let answer = linked::read(bytes);
-    let expected = read(bytes).map_or_else(|refusal| refusal.number(), |_| 0);
-    assert_eq!(answer, expected);
-    let mut proved = f64::INFINITY;
-    let mut rust = f64::INFINITY;
-    for _ in 0..7 {
-        proved = proved.min(time(|| linked::read(black_box(bytes))));
-        rust = rust.min(time(|| read(black_box(bytes)).is_ok()));
-    }
-    println!(
-        "{name:<66} {:>5} {answer:>6} {proved:>11.0} {rust:>11.0} {:>7.3}",
-        bytes.len(),
-        proved / rust
-    );
 }
 
 fn prepare_row(name: &str, bytes: &[u8]) {
@@ -362,6 +341,11 @@ fn least<const N: usize>(mut calls: [Option<Call>; N]) -> [Option<f64>; N] {
         }
     }
     least
+}
+
+/// So many digits of a number, if there is one.
+fn shown(number: Option<f64>, digits: usize) -> String {
+    number.map_or("-".to_string(), |number| format!("{number:.digits$}"))
 }
 
 /// Nanoseconds of one call, over at least 30 milliseconds; the clock is read

@@ -9,7 +9,8 @@ use recovery::random::{good, Random, Size};
 use recovery::read::read;
 use recovery::sheet::{Action, Epistemic, Objective, Program, Sheet, MAX_ACTION_NODES, MAX_TRACE};
 
-use crate::sheets::{all, balanced, most, stays, toggles};
+use crate::sheets::most;
+use crate::theories::{all, balanced, stays, toggles};
 use crate::{BUDGET, SAMPLE_1};
 
 /// Probes of each fact, one that tells nothing, some that overlap, and changes

@@ -12,7 +12,7 @@ use recovery::sheet::MAX_TRACE;
 use recovery::verify::{verify, Answer};
 
 use crate::routines::{later_sheets, verified_sheets};
-use crate::{least, Call, BUDGET};
+use crate::{least, shown, Call, BUDGET};
 
 pub type Verify = fn(&[u8], u32, &mut [u8]) -> Result<Verdict, u8>;
 
@@ -84,10 +84,6 @@ pub fn rows() {
 }
 
 fn print_row(name: &str, verdict: &str, row: Row) {
-    let shown = |number: Option<f64>, digits| match number {
-        Some(number) => format!("{number:.digits$}"),
-        None => "-".to_string(),
-    };
     let [proved, before, data, tables, memory] = row.times;
     print!("{name:<54} {verdict:>7} {:>10}", row.count);
     for time in row.times {
