@@ -1,4 +1,4 @@
--- What the checker's answers mean, and what a trace shows by a routine's tables.
+-- The method: what a trace shows by a routine's tables. An auditor of the promises needs none of it; proofs/ShownLaws.antt shows its agreement.
 use Prim.Native.Nat.{ℕ, _+_, _/_, _%_}
 use mathlib.Core.Path.{_≡_, refl}
 use mathlib.Core.List.{List, [], _∷_}
@@ -7,26 +7,16 @@ use lib.Dec.{eqb}
 use Rattle.states.specs.declared.States.{States}
 use Rattle.states.specs.Sets.{member, setOf}
 use Rattle.format.specs.Syntax.{top, fact, negation, known, Program, end, act, probe, Sheet}
-use Rattle.format.specs.Format.{Answer, accepted, refused}
-use Rattle.reader.specs.Answers.{numberOf}
 use Rattle.routine.specs.Tables.{sheetHeads, nodeCells, setWords, low}
 use Rattle.progression.specs.declared.place.Place.{Place}
 use Rattle.progression.specs.Machine.{settled, stepped}
-use Rattle.checker.specs.declared.Checked.{Checked}
-
--- "Yes" or no; "a refused sheet gets its number".
-unfoldable pub answerOf : Checked → Answer Bool
-unfolding numberOf
-answerOf Checked.Yes = accepted true
-answerOf Checked.No = accepted false
-answerOf (Checked.Refused r) = refused (numberOf r)
 
 -- Whether an end is reached at which the goal fails.
 unfoldable pub endFails : Place → Bool
 endFails (Place.Act node action) = false
 endFails (Place.End holds) = not holds
 
--- The method, over a routine's tables, whatever numbers are in the memory. It defines nothing of document 01; proofs/ShownLaws.antt shows its agreement.
+-- Over a routine's tables, whatever numbers are in the memory.
 module _ (heads nodes sets : List ℕ) where
   -- Whether the bytes behind a state show a full run from there that fails: node `at` is reached, the states of a set are possible, and the run's own state is the one
   -- state of `own`, one of them. Each two bytes are the routine's next action with a reply, and a state to which that leads from the run's own.

@@ -14,7 +14,8 @@ ghost use mathlib.Core.Path.{_≡_};
 ghost use mathlib.Core.Bool.{_&&_};
 ghost use lib.ListN.{length};
 ghost use Rattle.semantics.specs.Checker.{isTraceLength, checked};
-ghost use Rattle.checker.specs.Shown.{answerOf, showsBy};
+ghost use Rattle.checker.specs.Answers.{answerOf};
+ghost use Rattle.checker.specs.Shown.{showsBy};
 
 // Yes or no, or the sheet is refused.
 pub enum Checked {
@@ -78,13 +79,13 @@ fn shows(
 }
 
 // Whether a trace is a full run following the routine of a sheet whose history fails the goal, least or not.
-pub fn check(s: &[u8], trace: &[u8]) -> Checked
-    ensures { λ r. ⌜ answerOf r ≡ checked (now (s .entry)) (now (trace .entry)) ⌝ }
+pub fn check(bytes: &[u8], trace: &[u8]) -> Checked
+    ensures { λ r. ⌜ answerOf r ≡ checked (now (bytes .entry)) (now (trace .entry)) ⌝ }
 {
     let mut heads = [0u16; HEAD_CELLS];
     let mut nodes = [0u16; NODE_CELLS];
     let mut sets = [0u64; SET_WORDS];
-    match prepare(s, &mut heads, &mut nodes, &mut sets) {
+    match prepare(bytes, &mut heads, &mut nodes, &mut sets) {
         Prepared::Refused(r) => Checked::Refused(r),
         Prepared::Ready(start) => {
             if shows(&heads, &nodes, &sets, start, trace) {

@@ -16,7 +16,7 @@ use Rattle.progression.specs.Machine.{knownBy, settled, stepped}
 use Rattle.verifier.specs.declared.verdict.Verdict.{Verdict}
 use Rattle.verifier.specs.Answers.{answerOf as verifiedOf}
 use Rattle.checker.specs.declared.Checked.{Checked}
-use Rattle.checker.specs.Shown.{answerOf as checkedOf}
+use Rattle.checker.specs.Answers.{answerOf as checkedOf}
 use Rattle.runner.proofs.ListLaws.{RunnerContracts}
 use Rattle.claims.specs.Demands.{Library}
 

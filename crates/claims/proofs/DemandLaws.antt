@@ -46,7 +46,7 @@ use Rattle.progression.proofs.RoutineLaws.{after-more, known-after, Reached, At
 use Rattle.verifier.specs.declared.verdict.Verdict.{Verdict}
 use Rattle.verifier.specs.Answers.{answerOf as verifiedOf}
 use Rattle.checker.specs.declared.Checked.{Checked}
-use Rattle.checker.specs.Shown.{answerOf as checkedOf}
+use Rattle.checker.specs.Answers.{answerOf as checkedOf}
 use Rattle.runner.specs.Records.{reportOn, recordAfter}
 use Rattle.runner.specs.Answers.{rejectionNumber, reportedOf}
 use Rattle.runner.proofs.CallLaws.{refused-unchanged}

@@ -14,7 +14,7 @@ use Rattle.routine.specs.Tables.{preparedOf}
 use Rattle.verifier.specs.declared.verdict.Verdict.{Verdict}
 use Rattle.verifier.specs.Answers.{answerOf as verifiedOf}
 use Rattle.checker.specs.declared.Checked.{Checked}
-use Rattle.checker.specs.Shown.{answerOf as checkedOf}
+use Rattle.checker.specs.Answers.{answerOf as checkedOf}
 
 -- No sheet is refused with the number of a short memory.
 no-thirty : (r : Refusal) → eqb (numberOf r) 30 ≡ false

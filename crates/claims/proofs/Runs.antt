@@ -1,4 +1,4 @@
--- Runs of the library's functions on the machine, for every model: a relation "a run of the function's own routine returned r", which does what the contract says (`-ran`)
+-- Runs of the library's functions on the machine, for every model: a relation, that a run of the function's own routine returned r, which does what the contract says (`-ran`)
 -- and holds of some r from every memory in which the function may be called (`-ends`): every call ends, and no run returns anything else. Of the tables that `prepare`
 -- writes, what the contract says that they hold at exit is taken; the machine's cells are not looked at. (`-told` is what the contract tells of a result, and `-does` that
 -- the runs do it.) Assumes nothing.
@@ -27,7 +27,7 @@ use Rattle.routine.specs.Tables.{preparedOf, startOf, prepared, sheetHeads, nod
 use Rattle.progression.specs.declared.place.Place.{Place}
 use Rattle.progression.specs.Machine.{knownBy, settled, stepped}
 use Rattle.checker.specs.declared.Checked.{Checked}
-use Rattle.checker.specs.Shown.{answerOf as checkedOf}
+use Rattle.checker.specs.Answers.{answerOf as checkedOf}
 use Rattle.reader.proofs.read as read
 use Rattle.reader.proofs.read.Reads as read-reads
 use Rattle.reader.proofs.read.Met as read-met

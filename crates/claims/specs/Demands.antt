@@ -9,13 +9,13 @@ use Rattle.states.specs.declared.States.{States}
 use Rattle.states.specs.Sets.{member, setOf}
 use Rattle.format.specs.Syntax.{Objective, Epistemic, known, not-known, all-of, any-of, Program, end, act, branch, Sheet}
 use Rattle.format.specs.Truth.{holds}
-use Rattle.format.specs.Format.{accepted, refused, reading}
+use Rattle.format.specs.Format.{accepted, refused, mostBytes, mostActs, reading}
 use Rattle.reader.specs.declared.refusal.Refusal.{Refusal}
 use Rattle.reader.specs.declared.sheet.Answer.{Answer as Said}
 use Rattle.reader.specs.Answers.{numberOf, answerOf as readOf, withoutValue}
 use Rattle.semantics.specs.Runs.{Entry, History, extended, IsRun, lastState, Holds}
 use Rattle.semantics.specs.Routine.{routine, Follows, isFull, Failing}
-use Rattle.semantics.specs.Verdict.{historyCount, trace, TraceBefore, verified}
+use Rattle.semantics.specs.Verdict.{historyCount, trace, TraceBefore, longestTrace, verified}
 use Rattle.semantics.specs.Checker.{checked}
 use Rattle.routine.specs.declared.sheet.Prepared.{Prepared}
 use Rattle.routine.specs.Memory.{headMost, nodeMost, setMost, setAt}
@@ -24,7 +24,7 @@ use Rattle.progression.specs.declared.place.Place.{Place}
 use Rattle.verifier.specs.declared.verdict.Verdict.{Verdict}
 use Rattle.verifier.specs.Answers.{answerOf as verifiedOf}
 use Rattle.checker.specs.declared.Checked.{Checked}
-use Rattle.checker.specs.Shown.{answerOf as checkedOf}
+use Rattle.checker.specs.Answers.{answerOf as checkedOf}
 use Rattle.runner.specs.declared.answer.Rejection.{Rejection}
 use Rattle.runner.specs.declared.answer.Told.{Told}
 use Rattle.runner.specs.declared.answer.Reported.{Reported}
@@ -84,10 +84,10 @@ abbrev pub WordsFit : States → Type 0
 WordsFit set = (set .w0 < 2 ^ 64) × (set .w1 < 2 ^ 64) × (set .w2 < 2 ^ 64) × (set .w3 < 2 ^ 64)
 
 pub record RecordFits (r : Record) : Type 0 where
-  pub sheet-long : length (r .sheet) ≡ 1024
+  pub sheet-long : length (r .sheet) ≡ mostBytes
   pub sheet-bytes : AllBytes (r .sheet)
   pub len-fits : r .len < 2 ^ 64
-  pub replies-long : length (r .replies) ≡ 64
+  pub replies-long : length (r .replies) ≡ mostActs
   pub replies-bytes : AllBytes (r .replies)
   pub count-fits : r .count < 2 ^ 64
 
@@ -168,10 +168,10 @@ module _ {ℓ} (library : Library {ℓ}) where
         → ((memory ≡ old) × ((c l : ℕ) → r ≡ Verdict.Invalid c l → ⊥))
         ⊎ ((sheet : Sheet) × (h : History) × (run : List ℕ) × (reading bytes ≡ accepted sheet) × Failing sheet h run × (r ≡ Verdict.Invalid (historyCount sheet) (length h))
         × (memory ≡ trace h run ++ drop (length (trace h run)) old) × (length memory ≡ length old))
-    -- "The runner's record after a refused call on it is the record before it." ("Next" returns it in any case.)
+    -- "the runner's record after a refused call on it is the record before it" ("Next" returns it in any case.)
     pub next-keeps : (r : Record) (t : AfterNext) → library .runner .tells r t → t .kept ≡ r
     pub refused-keeps : (r : Record) (x : ℕ) (t : AfterReport) → library .runner .reports r x t → (why : Rejection) → t .answer ≡ Reported.Refused why → t .kept ≡ r
-    -- ".. with an answer that document 01 fixes": the one that the definitions give, with document 01's numbers and values; so the same call gets the same.
+    -- "with an answer that document 01 fixes": the one that the definitions give, with document 01's numbers and values; so the same call gets the same.
     pub read-fixed : (bytes : List ℕ) (a : Said) → library .reads bytes a → readOf a ≡ withoutValue (reading bytes)
     pub verify-fixed : (bytes : List ℕ) (budget : ℕ) (old : List ℕ) (r : Verdict) (memory : List ℕ) → library .verifies bytes budget old r memory
         → (verifiedOf r ≡ verified bytes budget old .answer) × (memory ≡ verified bytes budget old .memory)
@@ -187,16 +187,16 @@ module _ {ℓ} (library : Library {ℓ}) where
     pub reported-one : (a b : Reported) → reportedOf a ≡ reportedOf b → a ≡ b
     -- 30 for "trace memory under 129 bytes (before anything else)", and for nothing else.
     pub short-exactly : (bytes : List ℕ) (budget : ℕ) (old : List ℕ) (r : Verdict) (memory : List ℕ) → library .verifies bytes budget old r memory
-        → (r ≡ Verdict.ShortMemory) ↔ (length old < 129)
+        → (r ≡ Verdict.ShortMemory) ↔ (length old < longestTrace)
 
   -- Demand 2.
   pub record Demand2 : Type ℓ where
-    -- "A sheet is read .. as document 01 states": the reader accepts exactly the sheets in its form, and refuses every other with its number.
+    -- "A sheet is read", "as document 01 states": the reader accepts exactly the sheets in its form, and refuses every other with its number.
     pub read-accepts : (bytes : List ℕ) (a : Said) → library .reads bytes a → (a ≡ Said.Accepted) ↔ ((sheet : Sheet) × (reading bytes ≡ accepted sheet))
     pub read-refuses : (bytes : List ℕ) (a : Said) → library .reads bytes a → (r : Refusal) → (a ≡ Said.Refused r) ↔ (reading bytes ≡ refused (numberOf r))
-    -- "A sheet outside that form is refused, and no other is": so do loading, the verifier, where the memory is long enough, and the trace checker.
+    -- "a sheet outside that form is refused, and no other is": so do loading, the verifier, where the memory is long enough, and the trace checker.
     pub load-refuses : (bytes : List ℕ) (l : AfterLoad) → library .runner .loads bytes l → (r : Refusal) → (l .answer ≡ Said.Refused r) ↔ (reading bytes ≡ refused (numberOf r))
-    pub verify-refuses : (bytes : List ℕ) (budget : ℕ) (old : List ℕ) (a : Verdict) (memory : List ℕ) → library .verifies bytes budget old a memory → 129 ≤ length old
+    pub verify-refuses : (bytes : List ℕ) (budget : ℕ) (old : List ℕ) (a : Verdict) (memory : List ℕ) → library .verifies bytes budget old a memory → longestTrace ≤ length old
         → (r : Refusal) → (a ≡ Verdict.Refused r) ↔ (reading bytes ≡ refused (numberOf r))
     pub check-refuses : (bytes shown : List ℕ) (a : Checked) → library .checks bytes shown a → (r : Refusal) → (a ≡ Checked.Refused r) ↔ (reading bytes ≡ refused (numberOf r))
     -- The tables are made of every accepted sheet, and of no other.
@@ -207,11 +207,11 @@ module _ {ℓ} (library : Library {ℓ}) where
     -- The checker "says yes if and only if the trace is a full run following the routine whose history fails the goal".
     pub check-yes : (bytes : List ℕ) (sheet : Sheet) → reading bytes ≡ accepted sheet → (shown : List ℕ) (a : Checked) → library .checks bytes shown a
         → (a ≡ Checked.Yes) ↔ ((h : History) × (run : List ℕ) × Failing sheet h run × (shown ≡ trace h run))
-    -- "Its steps are worked out": the set that is carried along a history has exactly the last states of the runs with that history.
+    -- Its "steps are worked out": the set that is carried along a history has exactly the last states of the runs with that history.
     pub steps-right : (bytes : List ℕ) (sheet : Sheet) (heads nodes sets : List ℕ) (start : States) → Prepares bytes sheet heads nodes sets start
         → (h : History) (set : States) → Carried heads sets start (length (sheet .actions)) h set
         → (t : ℕ) → (member set t ≡ true) ↔ ((run : List ℕ) × IsRun sheet h run × (lastState run ≡ t))
-    -- "Its knowledge tests": the conditions that lie on the way are decided as the routine's, so that the action told is the one that comes next in every run that
+    -- "its knowledge tests": the conditions that lie on the way are decided as the routine's, so that the action told is the one that comes next in every run that
     -- follows the routine; and at the end the goal's test tells whether the goal holds after the history.
     pub actions-right : (bytes : List ℕ) (sheet : Sheet) (heads nodes sets : List ℕ) (start : States) → Prepares bytes sheet heads nodes sets start
         → (h : History) (at : ℕ) (set : States) → Reaches heads nodes sets start h at set → (node a : ℕ) → library .settles nodes sets set at (Place.Act node a)
@@ -225,7 +225,7 @@ module _ {ℓ} (library : Library {ℓ}) where
   module _ (bytes : List ℕ) (sheet : Sheet) (budget : ℕ) (old : List ℕ) (r : Verdict) (memory : List ℕ) where
     pub record Supposed : Type ℓ where
       pub read : reading bytes ≡ accepted sheet
-      pub enough : 129 ≤ length old
+      pub enough : longestTrace ≤ length old
       pub call : library .verifies bytes budget old r memory
 
     pub record Demand3Verdict : Type ℓ where

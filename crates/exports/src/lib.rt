@@ -48,10 +48,10 @@ fn answer_number(answer: Answer) -> u8
 
 // 0 for a sheet that is accepted, else document 01's number of its refusal.
 #[no_mangle]
-pub extern "C" fn recovery_read(s: &[u8]) -> u8
-    ensures { λ r. ⌜ r ≡ numberFor (reading (now (s .entry))) ⌝ }
+pub extern "C" fn recovery_read(bytes: &[u8]) -> u8
+    ensures { λ r. ⌜ r ≡ numberFor (reading (now (bytes .entry))) ⌝ }
 {
-    answer_number(reader::read(s))
+    answer_number(reader::read(bytes))
 }
 
 // The set whose words a memory holds.
@@ -80,15 +80,15 @@ fn put_words(memory: &mut [u64; WORDS], set: States)
 // number of the refusal, and every memory is left as it was.
 #[no_mangle]
 pub extern "C" fn recovery_prepare(
-    s: &[u8],
+    bytes: &[u8],
     heads: &mut [u16; HEAD_CELLS],
     nodes: &mut [u16; NODE_CELLS],
     sets: &mut [u64; SET_WORDS],
     start: &mut [u64; WORDS],
 ) -> u8
-    ensures { λ r. ⌜ (r ≡ numberFor (reading (now (s .entry)))) × (now (heads .exit) ≡ preparedBy sheetHeads (reading (now (s .entry))) (now (heads .entry))) × (now (nodes .exit) ≡ preparedBy nodeCells (reading (now (s .entry))) (now (nodes .entry))) × (now (sets .exit) ≡ preparedBy setWords (reading (now (s .entry))) (now (sets .entry))) × (now (start .exit) ≡ preparedBy startWords (reading (now (s .entry))) (now (start .entry))) ⌝ }
+    ensures { λ r. ⌜ (r ≡ numberFor (reading (now (bytes .entry)))) × (now (heads .exit) ≡ preparedBy sheetHeads (reading (now (bytes .entry))) (now (heads .entry))) × (now (nodes .exit) ≡ preparedBy nodeCells (reading (now (bytes .entry))) (now (nodes .entry))) × (now (sets .exit) ≡ preparedBy setWords (reading (now (bytes .entry))) (now (sets .entry))) × (now (start .exit) ≡ preparedBy startWords (reading (now (bytes .entry))) (now (start .entry))) ⌝ }
 {
-    match prepare(s, heads, nodes, sets) {
+    match prepare(bytes, heads, nodes, sets) {
         Prepared::Refused(r) => reader::number(r),
         Prepared::Ready(set) => {
             put_words(start, set);
@@ -145,14 +145,14 @@ fn put_verdict(verdict: &mut [u64; 3], kind: u64, count: u64, length: u64)
 // every memory is left as it was.
 #[no_mangle]
 pub extern "C" fn recovery_verify(
-    s: &[u8],
+    bytes: &[u8],
     budget: u32,
     trace: &mut [u8],
     verdict: &mut [u64; 3],
 ) -> u8
-    ensures { λ r. ⌜ (r ≡ numberFor (verified (now (s .entry)) budget (now (trace .entry)) .answer)) × (now (trace .exit) ≡ verified (now (s .entry)) budget (now (trace .entry)) .memory) × (now (verdict .exit) ≡ verdictMemory (verified (now (s .entry)) budget (now (trace .entry)) .answer) (now (verdict .entry))) ⌝ }
+    ensures { λ r. ⌜ (r ≡ numberFor (verified (now (bytes .entry)) budget (now (trace .entry)) .answer)) × (now (trace .exit) ≡ verified (now (bytes .entry)) budget (now (trace .entry)) .memory) × (now (verdict .exit) ≡ verdictMemory (verified (now (bytes .entry)) budget (now (trace .entry)) .answer) (now (verdict .entry))) ⌝ }
 {
-    match verify(s, budget, trace) {
+    match verify(bytes, budget, trace) {
         Verdict::Valid(c) => {
             put_verdict(verdict, 0, c as u64, 0);
             0
@@ -172,10 +172,10 @@ pub extern "C" fn recovery_verify(
 
 // Whether a trace is one of a full run that fails the goal: 0 for yes, 255 for no, else the number of the sheet's refusal.
 #[no_mangle]
-pub extern "C" fn recovery_check(s: &[u8], trace: &[u8]) -> u8
-    ensures { λ r. ⌜ r ≡ checkedNumber (checked (now (s .entry)) (now (trace .entry))) ⌝ }
+pub extern "C" fn recovery_check(bytes: &[u8], trace: &[u8]) -> u8
+    ensures { λ r. ⌜ r ≡ checkedNumber (checked (now (bytes .entry)) (now (trace .entry))) ⌝ }
 {
-    match check(s, trace) {
+    match check(bytes, trace) {
         Checked::Yes => 0,
         Checked::No => 255,
         Checked::Refused(r) => reader::number(r),
@@ -184,10 +184,10 @@ pub extern "C" fn recovery_check(s: &[u8], trace: &[u8]) -> u8
 
 // Writes what planverify prints for a sheet from the first byte on, and gives its length.
 #[no_mangle]
-pub extern "C" fn recovery_print(s: &[u8], out: &mut [u8; LINES]) -> usize
-    ensures { λ r. ⌜ (r ≡ length (printed (now (s .entry)))) × (now (out .exit) ≡ write (now (out .entry)) 0 (printed (now (s .entry)))) ⌝ }
+pub extern "C" fn recovery_print(bytes: &[u8], out: &mut [u8; LINES]) -> usize
+    ensures { λ r. ⌜ (r ≡ length (printed (now (bytes .entry)))) × (now (out .exit) ≡ write (now (out .entry)) 0 (printed (now (bytes .entry)))) ⌝ }
 {
-    print(s, out)
+    print(bytes, out)
 }
 
 // The record that lent memory holds.
@@ -210,14 +210,14 @@ fn lent_record(
 // the number of the refusal. The lengths are those of the sheet and of the replies.
 #[no_mangle]
 pub extern "C" fn recovery_load(
-    s: &[u8],
+    bytes: &[u8],
     sheet: &mut [u8; Record::SHEET],
     replies: &mut [u8; Record::REPLIES],
     lengths: &mut [usize; 2],
 ) -> u8
-    ensures { λ r. ⌜ (r ≡ numberFor (reading (now (s .entry)))) × (now (sheet .exit) ≡ loaded (now (s .entry)) .sheet) × (now (replies .exit) ≡ loaded (now (s .entry)) .replies) × (now (lengths .exit) ≡ lengthsOf (loaded (now (s .entry)))) ⌝ }
+    ensures { λ r. ⌜ (r ≡ numberFor (reading (now (bytes .entry)))) × (now (sheet .exit) ≡ loaded (now (bytes .entry)) .sheet) × (now (replies .exit) ≡ loaded (now (bytes .entry)) .replies) × (now (lengths .exit) ≡ lengthsOf (loaded (now (bytes .entry)))) ⌝ }
 {
-    let after = Record::load(s);
+    let after = Record::load(bytes);
     let kept = after.kept;
     let kept_sheet = kept.sheet;
     let kept_replies = kept.replies;

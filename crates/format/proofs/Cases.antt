@@ -1,4 +1,4 @@
--- Sheets with two faults, which only the order of the tests tells apart, and an accepted sheet, each evaluated by the definitions. Document 01, "From the
+-- Sheets with two faults, which only the order of the tests tells apart, a sheet with a stuck state, and an accepted sheet, each evaluated by the definitions. Document 01, "From the
 -- sheet": "1 comes first, then fields in reading order (8 before the tag is read, 7 before the fact number, 11 and 10 when the tag is known), then 12, 13, then
 -- 14 or 15 by action number." Assumes nothing.
 use Prim.Native.Nat.{ℕ}
@@ -30,7 +30,7 @@ tooManyNodes =
     0x11 ∷ 0x08 ∷ 0x90 ∷ 0xA0
     ∷ eightNodes ++ eightNodes ++ eightNodes ++ eightNodes ++ eightNodes ++ eightNodes ++ eightNodes ++ (0x40 ∷ 0x81 ∷ 0x02 ∷ 0x04 ∷ 0x08 ∷ 0x10 ∷ 0x3F ∷ [])
 
--- The tags and conditions ("true is known") of eight branch nodes, in seven bytes; the first node begins 3 bits before them.
+-- The tags and conditions (known: true) of eight branch nodes, in seven bytes; the first node begins 3 bits before them.
 abbrev eightBranches : List ℕ
 eightBranches = 0x18 ∷ 0x30 ∷ 0x60 ∷ 0xC1 ∷ 0x83 ∷ 0x06 ∷ 0x0C ∷ []
 
@@ -62,13 +62,15 @@ orders =
     ∷ row (0x11 ∷ 0x00 ∷ 0x09 ∷ []) 12
     -- 13 before 14: a start formula that is false, and a theory that is false.
     ∷ row (0x11 ∷ 0x08 ∷ 0x00 ∷ 0x80 ∷ []) 13
+    -- 14: a theory that says "fact 0", so that state 1 has a next state and state 0 has none.
+    ∷ row (0x11 ∷ 0x09 ∷ 0x02 ∷ 0x10 ∷ []) 14
     -- 15 before 14, by action number: action 0 a probe with the one reply "fact 0", and action 1 a change whose theory is false.
     ∷ row (0x11 ∷ 0x14 ∷ 0x50 ∷ 0x02 ∷ 0x10 ∷ []) 15
     ∷ []
 
 pub orders-hold : AllRefused orders
 unfolding reading
-orders-hold = (refl, (refl, (refl, (refl, (refl, (refl, (refl, (refl, (refl, (refl, (refl, tt)))))))))))
+orders-hold = (refl, (refl, (refl, (refl, (refl, (refl, (refl, (refl, (refl, (refl, (refl, (refl, tt))))))))))))
 
 -- Sample 1 is accepted, as this sheet: its probe has two replies, and in each state only one of them is true.
 abbrev pub sample1 : List ℕ

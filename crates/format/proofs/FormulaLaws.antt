@@ -7,12 +7,12 @@ use native.Mathlib.Omega.{arith}
 use lib.Dec.{ltb, eqb}
 use lib.ListN.{length}
 use Rattle.format.specs.Syntax.{Objective, bottom, top, fact, new-fact, negation, conjunction, disjunction, equivalence, Epistemic, known, not-known, all-of, any-of}
-use Rattle.format.specs.Format.{got, Reader, _>>=_, give, field, factNumber, objectiveBehind, objective, EpistemicHead, known-head, not-known-head, all-of-head, any-of-head, epistemicHead, epistemicBehind, epistemic}
+use Rattle.format.specs.Format.{got, Reader, _>>=_, give, field, factNumber, objectiveBehind, objective, EpistemicNode, known-node, not-known-node, all-of-node, any-of-node, epistemicNode, epistemicBehind, epistemic}
 use Rattle.format.proofs.FormatLaws.{Finds, finds-give, finds-refuse, finds-if, finds-check, finds-behind, Keeps, keeps-if, keeps-refuse, keeps-behind, keeps-levels, finds-field}
 
 -- What is read alike is kept.
 kept : {A : Type 0} (m : Reader A) → Keeps m m
-kept m s p a q e = e
+kept m bytes p a q e = e
 
 -- Two parts and a value made of them.
 abbrev both : {A B : Type 0} → Reader A → (A → A → B) → Reader B
@@ -45,19 +45,19 @@ pub objective-levels : (n : ℕ) (theory : Bool) (d d′ : ℕ) → d ≤ d′ �
 objective-levels n theory = keeps-levels (objective n theory) (objective-more n theory)
 
 -- One level of an epistemic formula, whose parts other readers keep.
-epistemic-behind-keeps : (inside inside′ : Reader Objective) (part part′ : Reader Epistemic) → Keeps inside inside′ → Keeps part part′ → (h : EpistemicHead)
+epistemic-behind-keeps : (inside inside′ : Reader Objective) (part part′ : Reader Epistemic) → Keeps inside inside′ → Keeps part part′ → (h : EpistemicNode)
     → Keeps (epistemicBehind inside part h) (epistemicBehind inside′ part′ h)
 unfolding epistemicBehind
-epistemic-behind-keeps inside inside′ part part′ within keeps known-head = keeps-behind inside inside′ _ _ within (λ f. kept (give (known f)))
-epistemic-behind-keeps inside inside′ part part′ within keeps not-known-head = keeps-behind inside inside′ _ _ within (λ f. kept (give (not-known f)))
-epistemic-behind-keeps inside inside′ part part′ within keeps all-of-head = both-keeps part part′ all-of keeps
-epistemic-behind-keeps inside inside′ part part′ within keeps any-of-head = both-keeps part part′ any-of keeps
+epistemic-behind-keeps inside inside′ part part′ within keeps known-node = keeps-behind inside inside′ _ _ within (λ f. kept (give (known f)))
+epistemic-behind-keeps inside inside′ part part′ within keeps not-known-node = keeps-behind inside inside′ _ _ within (λ f. kept (give (not-known f)))
+epistemic-behind-keeps inside inside′ part part′ within keeps all-of-node = both-keeps part part′ all-of keeps
+epistemic-behind-keeps inside inside′ part part′ within keeps any-of-node = both-keeps part part′ any-of keeps
 
 epistemic-more : (n d : ℕ) → Keeps (epistemic n d) (epistemic n (suc d))
 unfolding epistemic
 epistemic-more n zero = keeps-refuse 8 (epistemic n 1)
 epistemic-more n (suc d) =
-    keeps-behind epistemicHead epistemicHead _ _ (kept epistemicHead)
+    keeps-behind epistemicNode epistemicNode _ _ (kept epistemicNode)
     (epistemic-behind-keeps (objective n false d) (objective n false (suc d)) (epistemic n d) (epistemic n (suc d)) (objective-more n false d) (epistemic-more n d))
 
 -- An epistemic formula that is read is read alike with more levels.
@@ -66,46 +66,46 @@ epistemic-levels n = keeps-levels (epistemic n) (epistemic-more n)
 
 -- From a position inside the bytes on, and still inside.
 abbrev Onward : {A : Type 0} → List ℕ → ℕ → A → ℕ → Type 0
-Onward s p a q = (p ≤ q) × (q ≤ 8 * length s)
+Onward bytes p a q = (p ≤ q) × (q ≤ 8 * length bytes)
 
 -- A fact number ends inside the bytes.
-number-onward : (n : ℕ) (s : List ℕ) (p : ℕ) → Finds s p (Onward s p) (factNumber n)
+number-onward : (n : ℕ) (bytes : List ℕ) (p : ℕ) → Finds bytes p (Onward bytes p) (factNumber n)
 unfolding factNumber
-number-onward n s p =
-    finds-field s p (Onward s p) 3 (p + 3) refl _ (λ i e low.
-    finds-check s (p + 3) (Onward s p) (ltb i n) 6 _ (λ t. finds-give s (p + 3) (Onward s p) i (omega arith, low)))
+number-onward n bytes p =
+    finds-field bytes p (Onward bytes p) 3 (p + 3) refl _ (λ i e low.
+    finds-check bytes (p + 3) (Onward bytes p) (ltb i n) 6 _ (λ t. finds-give bytes (p + 3) (Onward bytes p) i (omega arith, low)))
 
 -- One level of an objective formula, whose parts end inside the bytes.
-objective-behind-onward : (n : ℕ) (theory : Bool) (part : Reader Objective) (s : List ℕ) → ((p : ℕ) (f : Objective) (q : ℕ) → part s p ≡ got f q → (p ≤ q) × (q ≤ 8 * length s)) → (p : ℕ) → p ≤ 8 * length s → (tag : ℕ)
-    → Finds s p (Onward s p) (objectiveBehind n theory part tag)
+objective-behind-onward : (n : ℕ) (theory : Bool) (part : Reader Objective) (bytes : List ℕ) → ((p : ℕ) (f : Objective) (q : ℕ) → part bytes p ≡ got f q → (p ≤ q) × (q ≤ 8 * length bytes)) → (p : ℕ) → p ≤ 8 * length bytes → (tag : ℕ)
+    → Finds bytes p (Onward bytes p) (objectiveBehind n theory part tag)
 unfolding objectiveBehind
-objective-behind-onward n theory part s onward p low tag =
-    finds-if s p Q (eqb tag 0) _ _ (λ t. finds-give s p Q bottom (omega arith, low))
-    (λ t. finds-if s p Q (eqb tag 1) _ _ (λ u. finds-give s p Q top (omega arith, low))
-    (λ u. finds-if s p Q (eqb tag 2) _ _ (λ v. number fact)
-    (λ v. finds-if s p Q (eqb tag 3) _ _ (λ w. finds-check s p Q theory 7 _ (λ x. number new-fact))
-    (λ w. finds-if s p Q (eqb tag 4) _ _ (λ x. finds-behind s p Q part _ (λ f r e. let g = onward p f r e in finds-give s r Q (negation f) g))
-    (λ x. finds-if s p Q (eqb tag 5) _ _ (λ y. two conjunction)
-    (λ y. finds-if s p Q (eqb tag 6) _ _ (λ z. two disjunction)
+objective-behind-onward n theory part bytes onward p low tag =
+    finds-if bytes p Q (eqb tag 0) _ _ (λ t. finds-give bytes p Q bottom (omega arith, low))
+    (λ t. finds-if bytes p Q (eqb tag 1) _ _ (λ u. finds-give bytes p Q top (omega arith, low))
+    (λ u. finds-if bytes p Q (eqb tag 2) _ _ (λ v. number fact)
+    (λ v. finds-if bytes p Q (eqb tag 3) _ _ (λ w. finds-check bytes p Q theory 7 _ (λ x. number new-fact))
+    (λ w. finds-if bytes p Q (eqb tag 4) _ _ (λ x. finds-behind bytes p Q part _ (λ f r e. let g = onward p f r e in finds-give bytes r Q (negation f) g))
+    (λ x. finds-if bytes p Q (eqb tag 5) _ _ (λ y. two conjunction)
+    (λ y. finds-if bytes p Q (eqb tag 6) _ _ (λ z. two disjunction)
     (λ z. two equivalence)))))))
   where
     Q : Objective → ℕ → Type 0
-    Q = Onward s p
+    Q = Onward bytes p
 
-    number : (make : ℕ → Objective) → Finds s p Q (factNumber n >>= λ i. give (make i))
-    number make = finds-behind s p Q (factNumber n) _ (λ i r e. finds-give s r Q (make i) (number-onward n s p .found i r e))
+    number : (make : ℕ → Objective) → Finds bytes p Q (factNumber n >>= λ i. give (make i))
+    number make = finds-behind bytes p Q (factNumber n) _ (λ i r e. finds-give bytes r Q (make i) (number-onward n bytes p .found i r e))
 
-    two : (make : Objective → Objective → Objective) → Finds s p Q (both part make)
+    two : (make : Objective → Objective → Objective) → Finds bytes p Q (both part make)
     two make =
-        finds-behind s p Q part _ (λ f r e. finds-behind s r Q part _ (λ g r′ e′.
+        finds-behind bytes p Q part _ (λ f r e. finds-behind bytes r Q part _ (λ g r′ e′.
         let x = onward p f r e in
         let y = onward r g r′ e′ in
-        finds-give s r′ Q (make f g) (omega arith, omega arith)))
+        finds-give bytes r′ Q (make f g) (omega arith, omega arith)))
 
 -- An objective formula that is read takes 3 bits at least, and ends inside the bytes.
-pub objective-onward : (n : ℕ) (theory : Bool) (d : ℕ) (s : List ℕ) (p : ℕ) → Finds s p (λ f q. (p + 3 ≤ q) × (q ≤ 8 * length s)) (objective n theory d)
+pub objective-onward : (n : ℕ) (theory : Bool) (d : ℕ) (bytes : List ℕ) (p : ℕ) → Finds bytes p (λ f q. (p + 3 ≤ q) × (q ≤ 8 * length bytes)) (objective n theory d)
 unfolding objective
-objective-onward n theory zero s p = finds-refuse s p _ 8
-objective-onward n theory (suc d) s p =
-    finds-field s p _ 3 (p + 3) refl _ (λ tag e low.
-    objective-behind-onward n theory (objective n theory d) s (λ i f q h. let w = objective-onward n theory d s i .found f q h in (omega arith, w .1)) (p + 3) low tag)
+objective-onward n theory zero bytes p = finds-refuse bytes p _ 8
+objective-onward n theory (suc d) bytes p =
+    finds-field bytes p _ 3 (p + 3) refl _ (λ tag e low.
+    objective-behind-onward n theory (objective n theory d) bytes (λ i f q h. let w = objective-onward n theory d bytes i .found f q h in (omega arith, w .1)) (p + 3) low tag)

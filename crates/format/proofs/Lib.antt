@@ -1,6 +1,9 @@
 pub mod StateLaws
 pub mod FormatLaws
 pub mod FormulaLaws
+pub mod ReaderLaws
+pub mod FieldLaws
 pub mod SheetLaws
-pub mod Cases
+pub mod StandingLaws
 pub mod FaultLaws
+pub mod Cases

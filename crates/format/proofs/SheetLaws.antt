@@ -2,17 +2,18 @@
 use Prim.Native.Nat.{ℕ, zero, suc, _+_, _≤_, _<_}
 use mathlib.Core.Path.{_≡_, refl, sym, ap, subst}
 use mathlib.Core.Logic.{⊎-elim}
-use mathlib.Core.List.{List, [], _∷_, _++_, flatMap, List·Memᴰ, List·Memᴰ·head, List·Memᴰ·tail, List·Memᴰ·not-nil, List·Memᴰ·cases-cons, Memᴰ·append-left, Memᴰ·append-right}
+use mathlib.Core.List.{List, [], _∷_, _++_, flatMap, List·Memᴰ, List·Memᴰ·head, List·Memᴰ·tail, List·Memᴰ·not-nil, List·Memᴰ·cases-cons, append-nil, Memᴰ·append-left, Memᴰ·append-right}
 use mathlib.Core.Bool.{Bool, true, false, not, _&&_}
 use native.Mathlib.Omega.{arith}
 use lib.Dec.{leb, ltb, eqb}
 use lib.ListN.{length, getD, List·getD-eq-default}
-use borrow.Author.Tests.{leb-true, ltb-true, ltb-false}
-use Rattle.lists.specs.Lists.{if_then_else_}
-use Rattle.lists.proofs.ListLaws.{not-both, both-true, mem-flat}
+use borrow.Author.Tests.{leb-true, ltb-true, ltb-false, eq-eqb}
+use Rattle.lists.specs.Lists.{if_then_else_, upFrom, below, every, exists}
+use Rattle.lists.proofs.ListLaws.{not-both, both-true, and-both, mem-flat, every-mem, mem-every, exists-mem, mem-exists}
 use Rattle.format.specs.Syntax.{Objective, bottom, top, fact, new-fact, negation, conjunction, disjunction, equivalence, Epistemic, known, not-known, all-of, any-of, Program, end, act, branch, Action, change, probe, replyCount, actionNodes, branchNodes, Sheet, actionOf}
-use Rattle.format.specs.Truth.{states, truth, holds}
-use Rattle.format.specs.Format.{Answer, accepted, refused, Read, got, fault, Reader, andThen, _>>=_, give, check, field, factNumber, objectiveBehind, objective, EpistemicHead, known-head, not-known-head, all-of-head, any-of-head, epistemicHead, epistemicBehind, epistemic, objectives, Kind, changes, probes, kind, replyNumber, theory, replies, actionBehind, action, actionList, ProgramRead, ProgramHead, end-head, act-head, branch-head, programHead, programBehind, programWithin, levels, program, isEdition, Header, header, body, sheetFields, isPadding, hasStart, leadsOn, hasReply, unless, actionFaults, faults, decided, afterFields, ofSheet, reading}
+use Rattle.format.specs.Truth.{isState, states, truth, holds, moves, replyHolds, allowed}
+use Rattle.format.specs.Format.{Answer, accepted, refused, Read, got, fault, Reader, andThen, _>>=_, give, check, field, factNumber, objectiveBehind, objective, EpistemicNode, known-node, not-known-node, all-of-node, any-of-node, epistemicNode, epistemicBehind, epistemic, objectives, Kind, changes, probes, kind, replyTotal, theory, replies, actionBehind, action, actionList, ProgramRead, ProgramNode, end-node, act-node, branch-node, programNode, programBehind, programWithin, levels, program, mostBytes, mostFacts, mostReplies, deepest, mostActs, mostBranches, Header, header, body, sheetFields, isPadding, hasStart, leadsOn, hasReply, unless, actionFaults, faults, decided, afterFields, ofSheet, readingBy, isEdition, reading}
+use Rattle.format.proofs.StateLaws.{state-listed, listed-state}
 use Rattle.format.proofs.FormatLaws.{Gives, gives-give, gives-refuse, gives-if, gives-check, gives-behind, gives-any, field-below, NumbersBelow, Counts, program-counts}
 
 -- A property of every member of a list whose first element and whose rest have it.
@@ -28,30 +29,30 @@ pub objectives-long : (n m : ℕ) → Gives (Long m) (objectives n m)
 unfolding objectives
 objectives-long n zero = gives-give (Long 0) [] refl
 objectives-long n (suc m) =
-    gives-any (Long (suc m)) (objective n false 16) _ (λ f.
+    gives-any (Long (suc m)) (objective n false deepest) _ (λ f.
     gives-behind (Long m) (Long (suc m)) (objectives n m) _ (objectives-long n m) (λ fs l.
     gives-give (Long (suc m)) (f ∷ fs) (ap suc l)))
 
 -- An action has 1 to 8 replies; one that is read does.
 abbrev pub FewReplies : Action → Type 0
-FewReplies a = (1 ≤ replyCount a) × (replyCount a ≤ 8)
+FewReplies a = (1 ≤ replyCount a) × (replyCount a ≤ mostReplies)
 
 -- A reply count is 1 to 8.
-pub count-few : Gives (λ m. (1 ≤ m) × (m ≤ 8)) replyNumber
-unfolding replyNumber
+pub count-few : Gives (λ m. (1 ≤ m) × (m ≤ mostReplies)) replyTotal
+unfolding replyTotal
 count-few =
-    gives-any (λ m. (1 ≤ m) × (m ≤ 8)) (field 4) _ (λ m. gives-check (λ i. (1 ≤ i) × (i ≤ 8)) (leb 1 m && leb m 8) 5 _ (λ t.
-    let u = both-true (leb 1 m) (leb m 8) t in
-    gives-give (λ i. (1 ≤ i) × (i ≤ 8)) m (leb-true 1 m (u .0), leb-true m 8 (u .1))))
+    gives-any (λ m. (1 ≤ m) × (m ≤ mostReplies)) (field 4) _ (λ m. gives-check (λ i. (1 ≤ i) × (i ≤ mostReplies)) (leb 1 m && leb m mostReplies) 5 _ (λ t.
+    let u = both-true (leb 1 m) (leb m mostReplies) t in
+    gives-give (λ i. (1 ≤ i) × (i ≤ mostReplies)) m (leb-true 1 m (u .0), leb-true m mostReplies (u .1))))
 
 behind-few : (n : ℕ) (h : Kind) → Gives FewReplies (actionBehind n h)
 unfolding actionBehind replies replyCount
 behind-few n changes = gives-any FewReplies (theory n) _ (λ f. gives-give FewReplies (change f) (omega arith, omega arith))
 behind-few n probes =
-    gives-behind (λ fs. (1 ≤ length fs) × (length fs ≤ 8)) FewReplies (replies n) _ many (λ fs l. gives-give FewReplies (probe fs) l)
+    gives-behind (λ fs. (1 ≤ length fs) × (length fs ≤ mostReplies)) FewReplies (replies n) _ many (λ fs l. gives-give FewReplies (probe fs) l)
   where
-    many : Gives (λ fs. (1 ≤ length fs) × (length fs ≤ 8)) (replies n)
-    many = gives-behind (λ m. (1 ≤ m) × (m ≤ 8)) (λ fs. (1 ≤ length fs) × (length fs ≤ 8)) replyNumber _ count-few (λ m few s p fs q e. let l = objectives-long n m s p fs q e in (omega (arith, few .0, l), omega (arith, few .1, l)))
+    many : Gives (λ fs. (1 ≤ length fs) × (length fs ≤ mostReplies)) (replies n)
+    many = gives-behind (λ m. (1 ≤ m) × (m ≤ mostReplies)) (λ fs. (1 ≤ length fs) × (length fs ≤ mostReplies)) replyTotal _ count-few (λ m few bytes p fs q e. let l = objectives-long n m bytes p fs q e in (omega (arith, few .0, l), omega (arith, few .1, l)))
 
 action-few : (n : ℕ) → Gives FewReplies (action n)
 unfolding action
@@ -74,43 +75,43 @@ list-few n (suc k) =
 -- The limits of a sheet: 1 to 8 facts; at most 31 actions, each with 1 to 8 replies; at most 64 action nodes and 63 branch nodes; no action number without an action.
 pub record Shape (sheet : Sheet) : Type 0 where
   pub facts-some : 1 ≤ sheet .facts
-  pub facts-most : sheet .facts ≤ 8
+  pub facts-most : sheet .facts ≤ mostFacts
   pub actions-most : length (sheet .actions) ≤ 31
   pub replies-few : (a : Action) → List·Memᴰ a (sheet .actions) → FewReplies a
-  pub acts-most : actionNodes (sheet .program) ≤ 64
-  pub branches-most : branchNodes (sheet .program) ≤ 63
+  pub acts-most : actionNodes (sheet .program) ≤ mostActs
+  pub branches-most : branchNodes (sheet .program) ≤ mostBranches
   pub numbers : NumbersBelow (length (sheet .actions)) (sheet .program)
 
 -- A header has 1 to 8 facts and at most 31 actions.
 pub record HeaderShape (h : Header) : Type 0 where
   pub facts-some : 1 ≤ h .facts
-  pub facts-most : h .facts ≤ 8
+  pub facts-most : h .facts ≤ mostFacts
   pub actions-most : h .actions ≤ 31
 
-pub header-shape : Gives HeaderShape header
+pub header-shape : (takes : ℕ → Bool) → Gives HeaderShape (header takes)
 unfolding header
-header-shape =
-    gives-any HeaderShape (field 4) _ (λ edition. gives-check HeaderShape (isEdition edition) 3 _ (λ t.
-    gives-any HeaderShape (field 4) _ (λ n. gives-check HeaderShape (leb 1 n && leb n 8) 4 _ (λ u.
+header-shape takes =
+    gives-any HeaderShape (field 4) _ (λ edition. gives-check HeaderShape (takes edition) 3 _ (λ t.
+    gives-any HeaderShape (field 4) _ (λ n. gives-check HeaderShape (leb 1 n && leb n mostFacts) 4 _ (λ u.
     gives-behind (λ k. k < 32) HeaderShape (field 5) _ (field-below 5) (λ k few.
-    let v = both-true (leb 1 n) (leb n 8) u in
-    gives-give HeaderShape _ (record { facts-some = leb-true 1 n (v .0); facts-most = leb-true n 8 (v .1); actions-most = omega arith }))))))
+    let v = both-true (leb 1 n) (leb n mostFacts) u in
+    gives-give HeaderShape _ (record { facts-some = leb-true 1 n (v .0); facts-most = leb-true n mostFacts (v .1); actions-most = omega arith }))))))
 
 -- A program with all its levels.
-pub program-is : (n k : ℕ) (s : List ℕ) (p : ℕ) → program n k s p ≡ programWithin n k levels 0 0 s p
+pub program-is : (n k : ℕ) (bytes : List ℕ) (p : ℕ) → program n k bytes p ≡ programWithin n k levels 0 0 bytes p
 unfolding program
-program-is n k s p = refl
+program-is n k bytes p = refl
 
 program-shape : (n k : ℕ) → Gives (Counts k 0 0) (program n k)
 unfolding program
 program-shape n k = program-counts n k levels 0 0
 
-fields-shape : Gives Shape sheetFields
-fields-shape =
-    gives-behind HeaderShape Shape header body header-shape (λ h limits.
+fields-shape : (takes : ℕ → Bool) → Gives Shape (sheetFields takes)
+fields-shape takes =
+    gives-behind HeaderShape Shape (header takes) body (header-shape takes) (λ h limits.
     gives-behind (Listed (h .actions)) Shape (actionList (h .facts) (h .actions)) _ (list-few (h .facts) (h .actions)) (λ actions l.
-    gives-any Shape (objective (h .facts) false 16) _ (λ start.
-    gives-any Shape (epistemic (h .facts) 16) _ (λ goal.
+    gives-any Shape (objective (h .facts) false deepest) _ (λ start.
+    gives-any Shape (epistemic (h .facts) deepest) _ (λ goal.
     gives-behind (Counts (h .actions) 0 0) Shape (program (h .facts) (h .actions)) _ (program-shape (h .facts) (h .actions)) (λ c i.
     gives-give Shape _ (record {
       facts-some = limits .facts-some;
@@ -124,78 +125,78 @@ fields-shape =
 
 -- How bytes are accepted: they are few enough, the fields give the sheet, and none of the tests after them fails.
 pub record Accepted (bytes : List ℕ) (sheet : Sheet) : Type 0 where
-  pub short : length bytes ≤ 1024
+  pub short : length bytes ≤ mostBytes
   pub position : ℕ
-  pub fields : sheetFields bytes 0 ≡ got sheet position
-  pub faultless : faults bytes position sheet ≡ []
+  pub fields : sheetFields isEdition bytes 0 ≡ got sheet position
+  pub faultless : faults actionFaults bytes position sheet ≡ []
 
 -- Accepted bytes are accepted so.
 pub accepted-how : (bytes : List ℕ) (sheet : Sheet) → reading bytes ≡ accepted sheet → Accepted bytes sheet
-unfolding reading ofSheet afterFields decided if_then_else_
-accepted-how bytes sheet e = go (leb (length bytes) 1024) refl (sheetFields bytes 0) refl e
+unfolding reading readingBy ofSheet afterFields decided if_then_else_
+accepted-how bytes sheet e = go (leb (length bytes) mostBytes) refl (sheetFields isEdition bytes 0) refl e
   where
-    last : (x : Sheet) (p : ℕ) (rs : List ℕ) → faults bytes p x ≡ rs → decided rs x ≡ accepted sheet → (x ≡ sheet) × (faults bytes p x ≡ [])
+    last : (x : Sheet) (p : ℕ) (rs : List ℕ) → faults actionFaults bytes p x ≡ rs → decided rs x ≡ accepted sheet → (x ≡ sheet) × (faults actionFaults bytes p x ≡ [])
     last x p [] h k = (cc, h)
     last x p (r ∷ rs) h k = let z : _≡_ {A = ℕ} 0 1 = cc in absurd (omega arith)
 
-    go : (b : Bool) → leb (length bytes) 1024 ≡ b → (r : Read Sheet) → sheetFields bytes 0 ≡ r → afterFields bytes (if b then r else fault 1) ≡ accepted sheet → Accepted bytes sheet
+    go : (b : Bool) → leb (length bytes) mostBytes ≡ b → (r : Read Sheet) → sheetFields isEdition bytes 0 ≡ r → afterFields actionFaults bytes (if b then r else fault 1) ≡ accepted sheet → Accepted bytes sheet
     go false l r f k = let z : _≡_ {A = ℕ} 0 1 = cc in absurd (omega arith)
     go true l (fault r) f k = let z : _≡_ {A = ℕ} 0 1 = cc in absurd (omega arith)
     go true l (got x p) f k =
-        let w = last x p (faults bytes p x) refl k in
-        subst (Accepted bytes) (w .0) (record { short = leb-true (length bytes) 1024 l; position = p; fields = f; faultless = w .1 })
+        let w = last x p (faults actionFaults bytes p x) refl k in
+        subst (Accepted bytes) (w .0) (record { short = leb-true (length bytes) mostBytes l; position = p; fields = f; faultless = w .1 })
 
 -- What the bytes are, by the header and the fields behind it.
 module _ (bytes : List ℕ) where
   -- A header that is refused.
-  pub reading-refused : {r : ℕ} → ofSheet header bytes 0 ≡ fault r → reading bytes ≡ refused r
-  unfolding reading ofSheet afterFields if_then_else_ _>>=_ andThen
-  reading-refused {r} e = go (leb (length bytes) 1024) e
+  pub reading-refused : {r : ℕ} → ofSheet (header isEdition) bytes 0 ≡ fault r → reading bytes ≡ refused r
+  unfolding reading readingBy ofSheet afterFields if_then_else_ _>>=_ andThen
+  reading-refused {r} e = go (leb (length bytes) mostBytes) e
     where
-      go : (b : Bool) → _≡_ {A = Read Header} (if b then header bytes 0 else fault 1) (fault r) → afterFields bytes (if b then andThen (header bytes 0) (λ h q. body h bytes q) else fault 1) ≡ refused r
+      go : (b : Bool) → _≡_ {A = Read Header} (if b then header isEdition bytes 0 else fault 1) (fault r) → afterFields actionFaults bytes (if b then andThen (header isEdition bytes 0) (λ h q. body h bytes q) else fault 1) ≡ refused r
       go true j = rw j
       go false j = let z : 1 ≡ r = cc in ap refused z
 
-  module _ {h : Header} {p : ℕ} (e : ofSheet header bytes 0 ≡ got h p) where
+  module _ {h : Header} {p : ℕ} (e : ofSheet (header isEdition) bytes 0 ≡ got h p) where
     -- One that is read: the sheet is short enough,
-    pub header-short : length bytes ≤ 1024
+    pub header-short : length bytes ≤ mostBytes
     unfolding ofSheet if_then_else_
-    header-short = go (leb (length bytes) 1024) refl e
+    header-short = go (leb (length bytes) mostBytes) refl e
       where
-        go : (b : Bool) → leb (length bytes) 1024 ≡ b → _≡_ {A = Read Header} (if b then header bytes 0 else fault 1) (got h p) → length bytes ≤ 1024
-        go true l j = leb-true (length bytes) 1024 l
+        go : (b : Bool) → leb (length bytes) mostBytes ≡ b → _≡_ {A = Read Header} (if b then header isEdition bytes 0 else fault 1) (got h p) → length bytes ≤ mostBytes
+        go true l j = leb-true (length bytes) mostBytes l
         go false l j = let z : _≡_ {A = ℕ} 0 1 = cc in absurd (omega arith)
 
     -- keeps the header's limits,
     pub header-limits : HeaderShape h
     unfolding ofSheet if_then_else_
-    header-limits = go (leb (length bytes) 1024) e
+    header-limits = go (leb (length bytes) mostBytes) e
       where
-        go : (b : Bool) → _≡_ {A = Read Header} (if b then header bytes 0 else fault 1) (got h p) → HeaderShape h
-        go true j = header-shape bytes 0 h p j
+        go : (b : Bool) → _≡_ {A = Read Header} (if b then header isEdition bytes 0 else fault 1) (got h p) → HeaderShape h
+        go true j = header-shape isEdition bytes 0 h p j
         go false j = let z : _≡_ {A = ℕ} 0 1 = cc in absurd (omega arith)
 
     -- and is what the fields behind it make it.
-    pub reading-body : reading bytes ≡ afterFields bytes (body h bytes p)
-    unfolding reading ofSheet if_then_else_ _>>=_ andThen
-    reading-body = go (leb (length bytes) 1024) e
+    pub reading-body : reading bytes ≡ afterFields actionFaults bytes (body h bytes p)
+    unfolding reading readingBy ofSheet if_then_else_ _>>=_ andThen
+    reading-body = go (leb (length bytes) mostBytes) e
       where
-        go : (b : Bool) → _≡_ {A = Read Header} (if b then header bytes 0 else fault 1) (got h p) → afterFields bytes (if b then andThen (header bytes 0) (λ h q. body h bytes q) else fault 1) ≡ afterFields bytes (body h bytes p)
+        go : (b : Bool) → _≡_ {A = Read Header} (if b then header isEdition bytes 0 else fault 1) (got h p) → afterFields actionFaults bytes (if b then andThen (header isEdition bytes 0) (λ h q. body h bytes q) else fault 1) ≡ afterFields actionFaults bytes (body h bytes p)
         go true j = rw j
         go false j = let z : _≡_ {A = ℕ} 0 1 = cc in absurd (omega arith)
 
 -- Accepted bytes are at most 1,024.
-pub accepted-length : (bytes : List ℕ) (sheet : Sheet) → reading bytes ≡ accepted sheet → length bytes ≤ 1024
+pub accepted-length : (bytes : List ℕ) (sheet : Sheet) → reading bytes ≡ accepted sheet → length bytes ≤ mostBytes
 accepted-length bytes sheet e = accepted-how bytes sheet e .short
 
 -- An accepted sheet keeps the limits.
 pub accepted-shape : (bytes : List ℕ) (sheet : Sheet) → reading bytes ≡ accepted sheet → Shape sheet
-accepted-shape bytes sheet e = let how = accepted-how bytes sheet e in fields-shape bytes 0 sheet (how .position) (how .fields)
+accepted-shape bytes sheet e = let how = accepted-how bytes sheet e in fields-shape isEdition bytes 0 sheet (how .position) (how .fields)
 
 -- What the tests after the fields tell: there is a start state, and in each state each action has a next state and a reply.
 pub record Passed (sheet : Sheet) : Type 0 where
   pub start : hasStart (states sheet) (sheet .start) ≡ true
-  pub leads : (a : Action) → List·Memᴰ a (sheet .actions) → leadsOn (states sheet) a ≡ true
+  pub leads : (a : Action) → List·Memᴰ a (sheet .actions) → leadsOn (states sheet) (moves a) ≡ true
   pub answered : (a : Action) → List·Memᴰ a (sheet .actions) → hasReply (states sheet) a ≡ true
 
 -- A test whose number isn't there has passed.
@@ -216,8 +217,8 @@ pub accepted-passed : (bytes : List ℕ) (sheet : Sheet) → reading bytes ≡ a
 unfolding faults actionFaults
 accepted-passed bytes sheet e = record {
   start = passed-unless (hasStart (states sheet) (sheet .start)) 13 (λ m. none (Memᴰ·append-left (flatMap each (sheet .actions)) (Memᴰ·append-right padding m)));
-  leads = λ a i. passed-unless (leadsOn (states sheet) a) 14 (λ m. none-of i (Memᴰ·append-left (unless (hasReply (states sheet) a) 15) m));
-  answered = λ a i. passed-unless (hasReply (states sheet) a) 15 (λ m. none-of i (Memᴰ·append-right (unless (leadsOn (states sheet) a) 14) m));
+  leads = λ a i. passed-unless (leadsOn (states sheet) (moves a)) 14 (λ m. none-of i (Memᴰ·append-left (unless (hasReply (states sheet) a) 15) m));
+  answered = λ a i. passed-unless (hasReply (states sheet) a) 15 (λ m. none-of i (Memᴰ·append-right (unless (leadsOn (states sheet) (moves a)) 14) m));
 }
   where
     how : Accepted bytes sheet
@@ -227,13 +228,33 @@ accepted-passed bytes sheet e = record {
     padding = unless (isPadding bytes (how .position)) 12
 
     each : Action → List ℕ
-    each a = unless (leadsOn (states sheet) a) 14 ++ unless (hasReply (states sheet) a) 15
+    each a = unless (leadsOn (states sheet) (moves a)) 14 ++ unless (hasReply (states sheet) a) 15
 
     none : {r : ℕ} → List·Memᴰ r (padding ++ unless (hasStart (states sheet) (sheet .start)) 13 ++ flatMap each (sheet .actions)) → ⊥
     none {r} m = List·Memᴰ·not-nil (subst (λ (rs : List ℕ). List·Memᴰ r rs) (how .faultless) m)
 
     none-of : {a : Action} {r : ℕ} → List·Memᴰ a (sheet .actions) → List·Memᴰ r (each a) → ⊥
     none-of i m = none (Memᴰ·append-right (padding ++ unless (hasStart (states sheet) (sheet .start)) 13) (mem-flat each (sheet .actions) i m))
+
+-- Of a change only the test behind 14 can fail, since its reply 0 is true in every state; and of a probe only the test behind 15, since it leaves each state as it is.
+module _ (space : List ℕ) where
+  pub change-faults : (f : Objective) → actionFaults space (change f) ≡ unless (leadsOn space (truth f)) 14
+  unfolding actionFaults hasReply moves replyHolds replyCount exists upFrom unless
+  change-faults f =
+      rw (mem-every (λ s. exists (λ r. replyHolds (change f) r s) (below 1)) space (λ s m. refl)) (append-nil (unless (leadsOn space (truth f)) 14))
+
+  pub probe-faults : (fs : List Objective) → actionFaults space (probe fs) ≡ unless (hasReply space (probe fs)) 15
+  unfolding actionFaults leadsOn moves unless
+  probe-faults fs = rw (mem-every (λ s. exists (λ t. eqb s t) space) space (λ s m. mem-exists (λ t. eqb s t) space m (eq-eqb s s refl)))
+
+-- An action that leads on and has a reply in each state has a step from each state.
+pub action-steps : (sheet : Sheet) (a : Action) → leadsOn (states sheet) (moves a) ≡ true → hasReply (states sheet) a ≡ true → (s : ℕ) → isState sheet s ≡ true
+    → (r : ℕ) × (t : ℕ) × (isState sheet t ≡ true) × (allowed a s r t ≡ true)
+unfolding leadsOn hasReply allowed
+action-steps sheet a l h s i =
+    let x = exists-mem (λ t. moves a s t) (states sheet) (every-mem (λ s. exists (λ t. moves a s t) (states sheet)) (states sheet) l (state-listed sheet s i)) in
+    let y = exists-mem (λ r. replyHolds a r (x .0)) (below (replyCount a)) (every-mem (λ s. exists (λ r. replyHolds a r s) (below (replyCount a))) (states sheet) h (x .1)) in
+    (y .0, x .0, listed-state sheet (x .1), and-both (moves a s (x .0)) (replyHolds a (y .0) (x .0)) (x .2) (y .2))
 
 -- The element at a number below the length is a member.
 at-mem : {A : Type 0} (d : A) (xs : List A) (i : ℕ) → i < length xs → List·Memᴰ (getD xs i d) xs
@@ -247,11 +268,11 @@ unfolding actionOf
 action-mem sheet a h = at-mem (probe []) (sheet .actions) a h
 
 -- Whatever the number, its action has at most 8 replies.
-pub few-replies : (sheet : Sheet) → Shape sheet → (a : ℕ) → replyCount (actionOf sheet a) ≤ 8
+pub few-replies : (sheet : Sheet) → Shape sheet → (a : ℕ) → replyCount (actionOf sheet a) ≤ mostReplies
 unfolding actionOf replyCount
 few-replies sheet shape a = go (ltb a (length (sheet .actions))) refl
   where
-    go : (b : Bool) → ltb a (length (sheet .actions)) ≡ b → replyCount (actionOf sheet a) ≤ 8
+    go : (b : Bool) → ltb a (length (sheet .actions)) ≡ b → replyCount (actionOf sheet a) ≤ mostReplies
     go true e = (shape .replies-few (actionOf sheet a) (action-mem sheet a (ltb-true a (length (sheet .actions)) e))) .1
     go false e = rw (List·getD-eq-default (sheet .actions) (probe []) (ltb-false a (length (sheet .actions)) e)) (omega arith)
 
@@ -357,40 +378,40 @@ module _ (n : ℕ) where
 
   -- An objective formula that is read outside a theory over n facts mentions those only, and no new fact.
   pub objective-facts : (d : ℕ) → Gives (ObjectiveFacts n) (objective n false d)
-  objective-facts d s p f q e = let h = objective-within false d s p f q e in (h .0, h .1 refl)
+  objective-facts d bytes p f q e = let h = objective-within false d bytes p f q e in (h .0, h .1 refl)
 
   -- A theory that is read mentions those only.
   pub theory-facts : (d : ℕ) → Gives (FactsBelow n) (objective n true d)
-  theory-facts d s p f q e = objective-within true d s p f q e .0
+  theory-facts d bytes p f q e = objective-within true d bytes p f q e .0
 
-  epistemic-behind-facts : (inside : Reader Objective) (part : Reader Epistemic) → Gives (ObjectiveFacts n) inside → Gives (EpistemicFacts n) part → (h : EpistemicHead)
+  epistemic-behind-facts : (inside : Reader Objective) (part : Reader Epistemic) → Gives (ObjectiveFacts n) inside → Gives (EpistemicFacts n) part → (h : EpistemicNode)
       → Gives (EpistemicFacts n) (epistemicBehind inside part h)
   unfolding epistemicBehind EpistemicFacts
-  epistemic-behind-facts inside part x y known-head = gives-behind (ObjectiveFacts n) (EpistemicFacts n) inside _ x (λ f h. gives-give (EpistemicFacts n) (known f) h)
-  epistemic-behind-facts inside part x y not-known-head = gives-behind (ObjectiveFacts n) (EpistemicFacts n) inside _ x (λ f h. gives-give (EpistemicFacts n) (not-known f) h)
-  epistemic-behind-facts inside part x y all-of-head =
+  epistemic-behind-facts inside part x y known-node = gives-behind (ObjectiveFacts n) (EpistemicFacts n) inside _ x (λ f h. gives-give (EpistemicFacts n) (known f) h)
+  epistemic-behind-facts inside part x y not-known-node = gives-behind (ObjectiveFacts n) (EpistemicFacts n) inside _ x (λ f h. gives-give (EpistemicFacts n) (not-known f) h)
+  epistemic-behind-facts inside part x y all-of-node =
       gives-behind (EpistemicFacts n) (EpistemicFacts n) part _ y (λ f h. gives-behind (EpistemicFacts n) (EpistemicFacts n) part _ y (λ g k. gives-give (EpistemicFacts n) (all-of f g) (h, k)))
-  epistemic-behind-facts inside part x y any-of-head =
+  epistemic-behind-facts inside part x y any-of-node =
       gives-behind (EpistemicFacts n) (EpistemicFacts n) part _ y (λ f h. gives-behind (EpistemicFacts n) (EpistemicFacts n) part _ y (λ g k. gives-give (EpistemicFacts n) (any-of f g) (h, k)))
 
   epistemic-facts : (d : ℕ) → Gives (EpistemicFacts n) (epistemic n d)
   unfolding epistemic
   epistemic-facts zero = gives-refuse (EpistemicFacts n) 8
-  epistemic-facts (suc d) = gives-any (EpistemicFacts n) epistemicHead _ (epistemic-behind-facts (objective n false d) (epistemic n d) (objective-facts d) (epistemic-facts d))
+  epistemic-facts (suc d) = gives-any (EpistemicFacts n) epistemicNode _ (epistemic-behind-facts (objective n false d) (epistemic n d) (objective-facts d) (epistemic-facts d))
 
   replies-facts : (m : ℕ) → Gives (λ fs. (f : Objective) → List·Memᴰ f fs → ObjectiveFacts n f) (objectives n m)
   unfolding objectives
   replies-facts zero = gives-give _ [] (λ f m. absurd (List·Memᴰ·not-nil m))
   replies-facts (suc m) =
-      gives-behind (ObjectiveFacts n) _ (objective n false 16) _ (objective-facts 16) (λ f h.
+      gives-behind (ObjectiveFacts n) _ (objective n false deepest) _ (objective-facts deepest) (λ f h.
       gives-behind (λ fs. (x : Objective) → List·Memᴰ x fs → ObjectiveFacts n x) _ (objectives n m) _ (replies-facts m) (λ fs k.
       gives-give _ (f ∷ fs) (mem-more (ObjectiveFacts n) f fs h k)))
 
   action-behind-facts : (h : Kind) → Gives (ActionFacts n) (actionBehind n h)
   unfolding actionBehind replies ActionFacts
-  action-behind-facts changes = gives-behind (FactsBelow n) (ActionFacts n) (theory n) _ (theory-facts 16) (λ f h. gives-give (ActionFacts n) (change f) h)
+  action-behind-facts changes = gives-behind (FactsBelow n) (ActionFacts n) (theory n) _ (theory-facts deepest) (λ f h. gives-give (ActionFacts n) (change f) h)
   action-behind-facts probes =
-      gives-behind (λ fs. (f : Objective) → List·Memᴰ f fs → ObjectiveFacts n f) (ActionFacts n) (replies n) _ (gives-any _ replyNumber _ replies-facts) (λ fs h. gives-give (ActionFacts n) (probe fs) h)
+      gives-behind (λ fs. (f : Objective) → List·Memᴰ f fs → ObjectiveFacts n f) (ActionFacts n) (replies n) _ (gives-any _ replyTotal _ replies-facts) (λ fs h. gives-give (ActionFacts n) (probe fs) h)
 
   one-action-facts : Gives (ActionFacts n) (action n)
   unfolding action
@@ -407,14 +428,14 @@ module _ (n : ℕ) where
   abbrev Routine : ProgramRead → Type 0
   Routine c = ProgramFacts n (c .program)
 
-  program-behind-facts : (k : ℕ) (part : ℕ → ℕ → Reader ProgramRead) → ((acts branches : ℕ) → Gives Routine (part acts branches)) → (acts branches : ℕ) (h : ProgramHead)
+  program-behind-facts : (k : ℕ) (part : ℕ → ℕ → Reader ProgramRead) → ((acts branches : ℕ) → Gives Routine (part acts branches)) → (acts branches : ℕ) (h : ProgramNode)
       → Gives Routine (programBehind n k part acts branches h)
   unfolding programBehind ProgramFacts
-  program-behind-facts k part facts acts branches end-head = gives-give Routine _ tt
-  program-behind-facts k part facts acts branches (act-head a) =
+  program-behind-facts k part facts acts branches end-node = gives-give Routine _ tt
+  program-behind-facts k part facts acts branches (act-node a) =
       gives-check Routine (ltb a k) 9 _ (λ u. gives-behind Routine Routine (part (acts + 1) branches) _ (facts (acts + 1) branches) (λ c h. gives-give Routine _ h))
-  program-behind-facts k part facts acts branches branch-head =
-      gives-behind (EpistemicFacts n) Routine (epistemic n 16) _ (epistemic-facts 16) (λ f h.
+  program-behind-facts k part facts acts branches branch-node =
+      gives-behind (EpistemicFacts n) Routine (epistemic n deepest) _ (epistemic-facts deepest) (λ f h.
       gives-behind Routine Routine (part acts (branches + 1)) _ (facts acts (branches + 1)) (λ x hx.
       gives-behind Routine Routine (part (x .acts) (x .branches)) _ (facts (x .acts) (x .branches)) (λ y hy.
       gives-behind Routine Routine (part (y .acts) (y .branches)) _ (facts (y .acts) (y .branches)) (λ z hz.
@@ -423,21 +444,21 @@ module _ (n : ℕ) where
   routine-facts : (k d acts branches : ℕ) → Gives Routine (programWithin n k d acts branches)
   unfolding programWithin
   routine-facts k zero acts branches = gives-refuse Routine 11
-  routine-facts k (suc d) acts branches = gives-any Routine (programHead acts branches) _ (program-behind-facts k (programWithin n k d) (routine-facts k d) acts branches)
+  routine-facts k (suc d) acts branches = gives-any Routine (programNode acts branches) _ (program-behind-facts k (programWithin n k d) (routine-facts k d) acts branches)
 
   program-facts : (k : ℕ) → Gives Routine (program n k)
   unfolding program
   program-facts k = routine-facts k levels 0 0
 
-fields-facts : Gives SheetFacts sheetFields
-fields-facts =
-    gives-any SheetFacts header body (λ h.
+fields-facts : (takes : ℕ → Bool) → Gives SheetFacts (sheetFields takes)
+fields-facts takes =
+    gives-any SheetFacts (header takes) body (λ h.
     gives-behind (λ actions. (a : Action) → List·Memᴰ a actions → ActionFacts (h .facts) a) SheetFacts (actionList (h .facts) (h .actions)) _ (list-facts (h .facts) (h .actions)) (λ actions ha.
-    gives-behind (ObjectiveFacts (h .facts)) SheetFacts (objective (h .facts) false 16) _ (objective-facts (h .facts) 16) (λ start hs.
-    gives-behind (EpistemicFacts (h .facts)) SheetFacts (epistemic (h .facts) 16) _ (epistemic-facts (h .facts) 16) (λ goal hg.
+    gives-behind (ObjectiveFacts (h .facts)) SheetFacts (objective (h .facts) false deepest) _ (objective-facts (h .facts) deepest) (λ start hs.
+    gives-behind (EpistemicFacts (h .facts)) SheetFacts (epistemic (h .facts) deepest) _ (epistemic-facts (h .facts) deepest) (λ goal hg.
     gives-behind (λ c. ProgramFacts (h .facts) (c .program)) SheetFacts (program (h .facts) (h .actions)) _ (program-facts (h .facts) (h .actions)) (λ c hc.
     gives-give SheetFacts _ (record { action-facts = ha; start-facts = hs; goal-facts = hg; program-facts = hc }))))))
 
 -- The formulas of an accepted sheet mention its facts only, and new facts in theories only.
 pub accepted-facts : (bytes : List ℕ) (sheet : Sheet) → reading bytes ≡ accepted sheet → SheetFacts sheet
-accepted-facts bytes sheet e = let how = accepted-how bytes sheet e in fields-facts bytes 0 sheet (how .position) (how .fields)
+accepted-facts bytes sheet e = let how = accepted-how bytes sheet e in fields-facts isEdition bytes 0 sheet (how .position) (how .fields)

@@ -13,9 +13,14 @@ use Rattle.lists.specs.Lists.{if_then_else_, upFrom, below, keep, Sorted}
 use Rattle.lists.proofs.ListLaws.{not-both, or-left, or-right, keep-mem, mem-keep, mem-upFrom}
 use Rattle.lists.proofs.OrderLaws.{sorted-keep, sorted-upFrom}
 use Rattle.format.specs.Syntax.{Objective, bottom, top, fact, new-fact, negation, conjunction, disjunction, equivalence, Action, change, probe, replyCount, Sheet}
-use Rattle.format.specs.Truth.{inSpace, spaceOf, isState, states, factIn, truth, holds, mentionsNew, moves, answers}
+use Rattle.format.specs.Truth.{inSpace, spaceOf, isState, states, factIn, truth, holds, mentionsNew, moves, replyHolds}
 
 module _ (sheet : Sheet) where
+  -- The states of a sheet are those over its facts.
+  pub state-test : (s : ℕ) → isState sheet s ≡ inSpace (sheet .facts) s
+  unfolding isState
+  state-test s = refl
+
   -- A state is below 2^n.
   pub state-below : (s : ℕ) → isState sheet s ≡ true → s < 2 ^ sheet .facts
   unfolding isState
@@ -60,16 +65,16 @@ unfolding states isState
 states-bytes sheet few = space-bytes (sheet .facts) few
 
 -- A reply that an action gives is one of its replies.
-pub answer-exists : (a : Action) (r t : ℕ) → answers a r t ≡ true → r < replyCount a
-unfolding answers replyCount holds truth
-answer-exists (change theory) r t e = let z : r ≡ 0 = eqb-true r 0 e in omega arith
-answer-exists (probe replies) r t e = go (decLt r (length replies))
+pub reply-exists : (a : Action) (r t : ℕ) → replyHolds a r t ≡ true → r < replyCount a
+unfolding replyHolds replyCount holds truth
+reply-exists (change theory) r t e = let z : r ≡ 0 = eqb-true r 0 e in omega arith
+reply-exists (probe replies) r t e = go (decLt r (length replies))
   where
     go : Dec (r < length replies) → r < length replies
     go (yes p) = p
     go (no p) = not-both e (ap (λ (f : Objective). holds f t) (List·getD-eq-default replies bottom {n = r} (omega arith)))
 
--- The truth of a theory, and so the step of a change, depends on no other fact of the next state: "a fact that it doesn't mention as new is free".
+-- The truth of a theory, and so the step of a change, depends on no other fact of the next state: "A fact that it doesn't mention as new is free".
 module _ (s t u : ℕ) where
   abbrev Agree : (Objective → Type 0)
   Agree f = (i : ℕ) → mentionsNew f i ≡ true → factIn t i ≡ factIn u i

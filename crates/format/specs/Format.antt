@@ -6,7 +6,7 @@ use lib.ListN.{length}
 use lib.Dec.{leb, ltb, eqb}
 use Rattle.lists.specs.Lists.{if_then_else_, upFrom, below, every, exists}
 use Rattle.format.specs.Syntax.{Objective, bottom, top, fact, new-fact, negation, conjunction, disjunction, equivalence, Epistemic, known, not-known, all-of, any-of, Program, end, act, branch, Action, change, probe, replyCount, Sheet}
-use Rattle.format.specs.Truth.{states, holds, moves, answers}
+use Rattle.format.specs.Truth.{states, holds, moves, replyHolds}
 use Rattle.format.specs.Bits.{bitsAt}
 
 -- An answer, or a refusal by its number.
@@ -50,7 +50,8 @@ unfolding refuse
 check true r go = go
 check false r go = refuse r
 
--- The limits of a sheet, "The sheet": its bytes, facts, replies of a probe, depth of a formula ("depth 16 is the deepest allowed"), action nodes and branch nodes.
+-- The limits of a sheet: "A sheet has at most 1,024 bytes." Facts "1 to 8", replies "1 to 8". "Depth 16 is the deepest allowed." "At most 64 action nodes and 63 branch
+-- nodes."
 abbrev pub mostBytes : ℕ
 mostBytes = 1024
 
@@ -81,8 +82,8 @@ factNumber n = do
   i ← field 3
   check (ltb i n) 6 (give i)
 
--- An objective formula behind its tag: 0 false; 1 true; 2 fact; 3 new fact; 4 not; 5 and; 6 or; 7 equivalence. `part` reads a formula one deeper.
--- 7: a new fact outside a theory, "before the fact number".
+-- An objective formula behind its tag. "0 false; 1 true; 2 fact and 3 new fact, each followed by a 3-bit fact number; 4 not (one formula follows); 5 and; 6 or;
+-- 7 equivalence (two follow)." `part` reads a formula one deeper. 7: a new fact outside a theory, "7 before the fact number".
 unfoldable pub objectiveBehind : (n : ℕ) (theory : Bool) (part : Reader Objective) (tag : ℕ) → Reader Objective
 unfolding factNumber _>>=_ check give if_then_else_
 objectiveBehind n theory part tag =
@@ -95,35 +96,36 @@ objectiveBehind n theory part tag =
     else if eqb tag 6 then (do f ← part; g ← part; give (disjunction f g))
     else (do f ← part; g ← part; give (equivalence f g))
 
--- An objective formula over n facts, with d levels of depth left. 8: none is left, "before the tag is read".
+-- An objective formula over n facts, with d levels of depth left. 8: none is left, "8 before the tag is read".
 unfoldable pub objective : (n : ℕ) (theory : Bool) (d : ℕ) → Reader Objective
 unfolding refuse field objectiveBehind _>>=_
 objective n theory zero = refuse 8
 objective n theory (suc d) = field 3 >>= objectiveBehind n theory (objective n theory d)
 
--- The first node of an epistemic formula. "Epistemic formula: 2-bit tag. 0 known; 1 not known; 2 and; 3 or."
-pub data EpistemicHead : Type 0 where
-  known-head not-known-head all-of-head any-of-head : EpistemicHead
+-- The first node of an epistemic formula. "Epistemic formula: 2-bit tag. 0 known (an objective formula follows); 1 not known (likewise); 2 and; 3 or (two epistemic
+-- formulas follow)."
+pub data EpistemicNode : Type 0 where
+  known-node not-known-node all-of-node any-of-node : EpistemicNode
 
-unfoldable pub epistemicHead : Reader EpistemicHead
+unfoldable pub epistemicNode : Reader EpistemicNode
 unfolding field _>>=_ give if_then_else_
-epistemicHead = do
+epistemicNode = do
   tag ← field 2
-  if eqb tag 0 then give known-head else if eqb tag 1 then give not-known-head else if eqb tag 2 then give all-of-head else give any-of-head
+  if eqb tag 0 then give known-node else if eqb tag 1 then give not-known-node else if eqb tag 2 then give all-of-node else give any-of-node
 
 -- An epistemic formula behind its first node. `inside` reads an objective formula one deeper, `part` an epistemic one.
-unfoldable pub epistemicBehind : (inside : Reader Objective) (part : Reader Epistemic) → EpistemicHead → Reader Epistemic
+unfoldable pub epistemicBehind : (inside : Reader Objective) (part : Reader Epistemic) → EpistemicNode → Reader Epistemic
 unfolding _>>=_ give
-epistemicBehind inside part known-head = do f ← inside; give (known f)
-epistemicBehind inside part not-known-head = do f ← inside; give (not-known f)
-epistemicBehind inside part all-of-head = do f ← part; g ← part; give (all-of f g)
-epistemicBehind inside part any-of-head = do f ← part; g ← part; give (any-of f g)
+epistemicBehind inside part known-node = do f ← inside; give (known f)
+epistemicBehind inside part not-known-node = do f ← inside; give (not-known f)
+epistemicBehind inside part all-of-node = do f ← part; g ← part; give (all-of f g)
+epistemicBehind inside part any-of-node = do f ← part; g ← part; give (any-of f g)
 
--- An epistemic formula over n facts, with d levels of depth left. "Known and not known count as nodes", so their formula is one deeper.
+-- An epistemic formula over n facts, with d levels of depth left. "known and not known count as nodes", so their formula is one deeper.
 unfoldable pub epistemic : (n d : ℕ) → Reader Epistemic
-unfolding refuse epistemicHead objective epistemicBehind _>>=_
+unfolding refuse epistemicNode objective epistemicBehind _>>=_
 epistemic n zero = refuse 8
-epistemic n (suc d) = epistemicHead >>= epistemicBehind (objective n false d) (epistemic n d)
+epistemic n (suc d) = epistemicNode >>= epistemicBehind (objective n false d) (epistemic n d)
 
 -- m objective formulas, one after the other.
 unfoldable pub objectives : (n m : ℕ) → Reader (List Objective)
@@ -134,7 +136,7 @@ objectives n (suc m) = do
   fs ← objectives n m
   give (f ∷ fs)
 
--- The kind of an action. "Action: 1 bit. 0 is a change. 1 is a probe."
+-- The kind of an action. "Action: 1 bit. 0 is a change: one objective formula, its theory. 1 is a probe: reply count m, 4 bits, 1 to 8, then m objective formulas".
 pub data Kind : Type 0 where
   changes probes : Kind
 
@@ -144,10 +146,10 @@ kind = do
   bit ← field 1
   if eqb bit 0 then give changes else give probes
 
--- "Reply count m, 4 bits, 1 to 8." 5: m is not 1 to 8.
-unfoldable pub replyNumber : Reader ℕ
+-- The reply count of a probe. 5: m is not 1 to 8.
+unfoldable pub replyTotal : Reader ℕ
 unfolding field check _>>=_ give
-replyNumber = do
+replyTotal = do
   m ← field 4
   check (leb 1 m && leb m mostReplies) 5 (give m)
 
@@ -156,8 +158,8 @@ abbrev pub theory : (n : ℕ) → Reader Objective
 theory n = objective n true deepest
 
 unfoldable pub replies : (n : ℕ) → Reader (List Objective)
-unfolding replyNumber objectives _>>=_
-replies n = replyNumber >>= objectives n
+unfolding replyTotal objectives _>>=_
+replies n = replyTotal >>= objectives n
 
 -- An action behind its kind.
 unfoldable pub actionBehind : (n : ℕ) → Kind → Reader Action
@@ -185,32 +187,32 @@ pub record ProgramRead : Type 0 where
   pub branches : ℕ
 
 -- The first node of a program: the end, an action with its number, or a branch.
-pub data ProgramHead : Type 0 where
-  end-head : ProgramHead
-  act-head : ℕ → ProgramHead
-  branch-head : ProgramHead
+pub data ProgramNode : Type 0 where
+  end-node : ProgramNode
+  act-node : ℕ → ProgramNode
+  branch-node : ProgramNode
 
--- "Program: 2-bit tag. 0 end; 1 action (5-bit number, then the rest); 2 branch; 3 loop, refused." "At most 64 action nodes and 63 branch nodes": acts and
--- branches are those read before. 11: a node too many, and 10: a loop, both "when the tag is known".
-unfoldable pub programHead : (acts branches : ℕ) → Reader ProgramHead
+-- "Program: 2-bit tag. 0 end; 1 action (5-bit number, then the rest, a program); 2 branch (epistemic formula, then-program, else-program, rest); 3 loop, refused."
+-- acts and branches are the action nodes and the branch nodes read before it. 11: a node too many, and 10: a loop, "11 and 10 when the tag is known".
+unfoldable pub programNode : (acts branches : ℕ) → Reader ProgramNode
 unfolding field refuse check _>>=_ give if_then_else_
-programHead acts branches = do
+programNode acts branches = do
   tag ← field 2
-  if eqb tag 0 then give end-head
-      else if eqb tag 1 then check (ltb acts mostActs) 11 (do a ← field 5; give (act-head a))
-      else if eqb tag 2 then check (ltb branches mostBranches) 11 (give branch-head)
+  if eqb tag 0 then give end-node
+      else if eqb tag 1 then check (ltb acts mostActs) 11 (do a ← field 5; give (act-node a))
+      else if eqb tag 2 then check (ltb branches mostBranches) 11 (give branch-node)
       else refuse 10
 
 -- A program behind its first node, over n facts and k actions, where acts and branches are the nodes read before it. `part` reads a program.
 -- 9: an action number k or more.
-unfoldable pub programBehind : (n k : ℕ) (part : ℕ → ℕ → Reader ProgramRead) (acts branches : ℕ) → ProgramHead → Reader ProgramRead
+unfoldable pub programBehind : (n k : ℕ) (part : ℕ → ℕ → Reader ProgramRead) (acts branches : ℕ) → ProgramNode → Reader ProgramRead
 unfolding epistemic check _>>=_ give
-programBehind n k part acts branches end-head = give (record { program = end; acts = acts; branches = branches })
-programBehind n k part acts branches (act-head a) =
+programBehind n k part acts branches end-node = give (record { program = end; acts = acts; branches = branches })
+programBehind n k part acts branches (act-node a) =
     check (ltb a k) 9 (do
       rest ← part (acts + 1) branches
       give (record { program = act a (rest .program); acts = rest .acts; branches = rest .branches }))
-programBehind n k part acts branches branch-head = do
+programBehind n k part acts branches branch-node = do
   f ← epistemic n deepest
   yes-part ← part acts (branches + 1)
   no-part ← part (yes-part .acts) (yes-part .branches)
@@ -220,9 +222,9 @@ programBehind n k part acts branches branch-head = do
 -- A program with d levels left. Programs have no depth limit of their own: a level for each node that may come and one for an end are enough
 -- (proofs/FormatLaws.antt, `more-levels`: more levels give the same), so the case of none left never arises.
 unfoldable pub programWithin : (n k d acts branches : ℕ) → Reader ProgramRead
-unfolding programHead programBehind refuse _>>=_
+unfolding programNode programBehind refuse _>>=_
 programWithin n k zero acts branches = refuse 11
-programWithin n k (suc d) acts branches = programHead acts branches >>= programBehind n k (programWithin n k d) acts branches
+programWithin n k (suc d) acts branches = programNode acts branches >>= programBehind n k (programWithin n k d) acts branches
 
 abbrev pub levels : ℕ
 levels = mostActs + mostBranches + 1
@@ -231,27 +233,25 @@ unfoldable pub program : (n k : ℕ) → Reader ProgramRead
 unfolding programWithin
 program n k = programWithin n k levels 0 0
 
--- The editions that are read, named here and nowhere else.
-unfoldable pub isEdition : ℕ → Bool
-isEdition edition = eqb edition 1
-
--- What the header says: the number of facts and the number of actions.
+-- What the header says: the edition, by which the fields behind it are read (edition 1: as `body` does), the number of facts and the number of actions.
 pub record Header : Type 0 where
+  pub edition : ℕ
   pub facts : ℕ
   pub actions : ℕ
 
--- "Edition, 4 bits, value 1; number of facts n, 4 bits, 1 to 8; number of actions A, 5 bits, 0 to 31." 3: edition; 4: n is not 1 to 8.
-unfoldable pub header : Reader Header
-unfolding isEdition field check _>>=_ give
-header = do
+-- "edition, 4 bits, value 1; number of facts n, 4 bits, 1 to 8", "number of actions A, 5 bits, 0 to 31". `takes` tells the editions that are read.
+-- 3: another edition; 4: n is not 1 to 8.
+unfoldable pub header : (takes : ℕ → Bool) → Reader Header
+unfolding field check _>>=_ give
+header takes = do
   edition ← field 4
-  check (isEdition edition) 3 do
+  check (takes edition) 3 do
     n ← field 4
     check (leb 1 n && leb n mostFacts) 4 do
       k ← field 5
-      give (record { facts = n; actions = k })
+      give (record { edition = edition; facts = n; actions = k })
 
--- The fields behind the header, in order; and all of them.
+-- The fields behind the header: "then A actions, numbered from 0", "start formula (objective), goal (epistemic), program"; and all fields.
 abbrev pub body : Header → Reader Sheet
 body h = do
   actions ← actionList (h .facts) (h .actions)
@@ -260,60 +260,69 @@ body h = do
   counted ← program (h .facts) (h .actions)
   give (record { facts = h .facts; actions = actions; start = start; goal = goal; program = counted .program })
 
-abbrev pub sheetFields : Reader Sheet
-sheetFields = header >>= body
+abbrev pub sheetFields : (takes : ℕ → Bool) → Reader Sheet
+sheetFields takes = header takes >>= body
 
 -- "0 to 7 zero bits to the end of the byte": from p fewer than 8 bits are left, all of them 0.
 unfoldable pub isPadding : (bytes : List ℕ) (p : ℕ) → Bool
 unfolding bitsAt
 isPadding bytes p = ltb (8 * length bytes - p) 8 && eqb (bitsAt bytes p (8 * length bytes - p)) 0
 
--- The tests on a list of states, the state space. "The start formula must hold in some state."
+-- The tests on the states, given as a list. "The start formula must hold in some state."
 unfoldable pub hasStart : (space : List ℕ) (start : Objective) → Bool
 unfolding exists holds
 hasStart space start = exists (holds start) space
 
--- "A theory must allow some next state from each of the 2^n states" (2012, 2013: fully executable). (A probe leaves the state as it is.)
-unfoldable pub leadsOn : (space : List ℕ) → Action → Bool
-unfolding every exists moves
-leadsOn space a = every (λ s. exists (λ t. moves a s t) space) space
+-- "A theory must allow some next state from each of the 2^n states." (2012, 2013: fully executable.) `allows` tells the next states of a state.
+unfoldable pub leadsOn : (space : List ℕ) (allows : (s t : ℕ) → Bool) → Bool
+unfolding every exists
+leadsOn space allows = every (λ s. exists (λ t. allows s t) space) space
 
--- "In each of the 2^n states some reply of a probe must be true" (2013: feedbacks are exhaustive; 2012 has no such rule). (A change's reply 0 is.)
+-- "In each of the 2^n states some reply of a probe must be true". (2013: feedbacks are exhaustive; 2012 has no such rule. A change's reply 0 is.)
 unfoldable pub hasReply : (space : List ℕ) → Action → Bool
-unfolding every exists answers upFrom replyCount
-hasReply space a = every (λ s. exists (λ r. answers a r s) (below (replyCount a))) space
+unfolding every exists replyHolds upFrom replyCount
+hasReply space a = every (λ s. exists (λ r. replyHolds a r s) (below (replyCount a))) space
 
 -- A test's number if it fails.
 unfoldable pub unless : (passed : Bool) (r : ℕ) → List ℕ
 unless true r = []
 unless false r = r ∷ []
 
--- The numbers of the tests that fail for an action: 14, a state without next state, and 15, a state without reply.
+-- The numbers of the tests that fail for an action: "14 a state without next state; 15 a state without reply". (A probe leaves the state as it is.)
 unfoldable pub actionFaults : (space : List ℕ) → Action → List ℕ
-unfolding leadsOn hasReply unless
-actionFaults space a = unless (leadsOn space a) 14 ++ unless (hasReply space a) 15
+unfolding leadsOn moves hasReply unless
+actionFaults space a = unless (leadsOn space (moves a)) 14 ++ unless (hasReply space a) 15
 
--- The numbers of the tests that fail after the fields, in order: 12, a set padding bit or a spare byte; 13, no start state; then by action number 14 and 15.
-unfoldable pub faults : (bytes : List ℕ) (p : ℕ) → Sheet → List ℕ
-unfolding isPadding hasStart actionFaults states unless flatMap
-faults bytes p sheet = unless (isPadding bytes p) 12 ++ unless (hasStart (states sheet) (sheet .start)) 13 ++ flatMap (actionFaults (states sheet)) (sheet .actions)
+-- The numbers of the tests that fail after the fields, in order: "12 a set padding bit or a spare byte; 13 no start state"; "then 14 or 15 by action number". `tests` gives
+-- those that fail for an action.
+unfoldable pub faults : (tests : (space : List ℕ) → Action → List ℕ) (bytes : List ℕ) (p : ℕ) → Sheet → List ℕ
+unfolding isPadding hasStart states unless flatMap
+faults tests bytes p sheet = unless (isPadding bytes p) 12 ++ unless (hasStart (states sheet) (sheet .start)) 13 ++ flatMap (tests (states sheet)) (sheet .actions)
 
 -- The first of them decides.
-unfoldable pub decided : List ℕ → Sheet → Answer Sheet
-decided [] sheet = accepted sheet
-decided (r ∷ rs) sheet = refused r
+unfoldable pub decided : {A : Type 0} → List ℕ → A → Answer A
+decided [] a = accepted a
+decided (r ∷ rs) a = refused r
 
-unfoldable pub afterFields : (bytes : List ℕ) → Read Sheet → Answer Sheet
+unfoldable pub afterFields : (tests : (space : List ℕ) → Action → List ℕ) (bytes : List ℕ) → Read Sheet → Answer Sheet
 unfolding faults decided
-afterFields bytes (fault r) = refused r
-afterFields bytes (got sheet p) = decided (faults bytes p sheet) sheet
+afterFields tests bytes (fault r) = refused r
+afterFields tests bytes (got sheet p) = decided (faults tests bytes p sheet) sheet
 
--- A reader of a sheet: "a sheet has at most 1,024 bytes". 1: longer, which "comes first".
+-- A reader of a sheet: 1, "longer than 1,024 bytes", "comes first".
 unfoldable pub ofSheet : {A : Type 0} → Reader A → Reader A
 unfolding if_then_else_
 ofSheet m bytes p = if leb (length bytes) mostBytes then m bytes p else fault 1
 
--- What the bytes are: a sheet, or a refusal.
-unfoldable pub reading : (bytes : List ℕ) → Answer Sheet
+-- What the bytes are, a sheet or a refusal, by the editions that are taken and the tests that each action is put to.
+unfoldable pub readingBy : (takes : ℕ → Bool) (tests : (space : List ℕ) → Action → List ℕ) (bytes : List ℕ) → Answer Sheet
 unfolding ofSheet header actionList objective epistemic program _>>=_ give afterFields
-reading bytes = afterFields bytes (ofSheet sheetFields bytes 0)
+readingBy takes tests bytes = afterFields tests bytes (ofSheet (sheetFields takes) bytes 0)
+
+-- Edition 1, "value 1", with both tests.
+unfoldable pub isEdition : ℕ → Bool
+isEdition edition = eqb edition 1
+
+unfoldable pub reading : (bytes : List ℕ) → Answer Sheet
+unfolding readingBy isEdition actionFaults
+reading bytes = readingBy isEdition actionFaults bytes

@@ -1,4 +1,5 @@
 pub mod Syntax
-pub mod Truth
 pub mod Bits
+pub mod Truth
 pub mod Format
+pub mod Standing

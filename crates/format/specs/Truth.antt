@@ -67,12 +67,12 @@ moves (probe replies) s t = eqb s t
 
 -- Then the reply, in the state after the effect: a change's reply is 0; a probe's is one that is true. "Several may be." (2013: replies
 -- are exhaustive, and need not exclude one another.)
-unfoldable pub answers : Action → (r t : ℕ) → Bool
+unfoldable pub replyHolds : Action → (r t : ℕ) → Bool
 unfolding holds
-answers (change theory) r t = eqb r 0
-answers (probe replies) r t = holds (getD replies r bottom) t
+replyHolds (change theory) r t = eqb r 0
+replyHolds (probe replies) r t = holds (getD replies r bottom) t
 
 -- The step of an action from state s with reply r to state t.
 unfoldable pub allowed : Action → (s r t : ℕ) → Bool
-unfolding moves answers
-allowed a s r t = moves a s t && answers a r t
+unfolding moves replyHolds
+allowed a s r t = moves a s t && replyHolds a r t

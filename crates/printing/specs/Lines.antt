@@ -1,8 +1,9 @@
--- What the parts of `print` write.
+-- The method: what the parts of `print` write, for the contracts of inner functions. An auditor of the promises needs none of it.
 use Prim.Native.Nat.{ℕ, _+_, _≤_}
 use mathlib.Core.Path.{_≡_}
 use mathlib.Core.List.{List, _++_}
 use lib.ListN.{length}
+use Rattle.format.specs.Format.{mostActs}
 use Rattle.semantics.specs.Printing.{decimal, behindSpace}
 use Rattle.routine.specs.Memory.{write}
 use Rattle.verifier.specs.declared.verdict.Verdict.{Verdict}
@@ -20,7 +21,7 @@ behindWord word n = word ++ behindSpace n
 -- A verdict whose trace, if it has one, is of at most 64 actions.
 unfoldable pub Printable : Verdict → Type 0
 Printable (Verdict.Valid c) = Unit {0}
-Printable (Verdict.Invalid c l) = l ≤ 64
+Printable (Verdict.Invalid c l) = l ≤ mostActs
 Printable (Verdict.Stopped b) = Unit {0}
 Printable Verdict.ShortMemory = Unit {0}
 Printable (Verdict.Refused r) = Unit {0}

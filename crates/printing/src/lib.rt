@@ -7,8 +7,8 @@ ghost use mathlib.Core.List.{[], _∷_, _++_};
 ghost use Prim.Native.Nat.{_+_, _*_, _≤_, _<_};
 ghost use lib.ListN.{length, take};
 ghost use Rattle.semantics.specs.Printing.{digit as digitOf, decimal, hexadecimal, endLine, printedFor, printed};
-ghost use Rattle.format.specs.Format.{accepted};
-ghost use Rattle.semantics.specs.Verdict.{invalid};
+ghost use Rattle.format.specs.Format.{accepted, mostActs};
+ghost use Rattle.semantics.specs.Verdict.{invalid, longestTrace};
 ghost use Rattle.routine.specs.Memory.{write};
 ghost use Rattle.verifier.specs.Answers.{answerOf};
 ghost use Rattle.printing.specs.Lines.{Put, behindWord, Printable};
@@ -66,7 +66,7 @@ fn put_byte(out: &mut [u8; LINES], at: usize, b: u8)
 
 // Writes the bytes of a trace in hexadecimal, and gives the place behind them.
 fn put_trace(out: &mut [u8; LINES], at: usize, trace: &[u8; TRACE], count: usize) -> usize
-    requires { ⌜ (at + 3 * count ≤ 512) × (0 < count) × (count ≤ 129) × (length (now trace) ≡ 129) ⌝ }
+    requires { ⌜ (at + 3 * count ≤ 512) × (0 < count) × (count ≤ longestTrace) × (length (now trace) ≡ longestTrace) ⌝ }
     ensures { λ r. ⌜ Put (now (out .entry)) (now (out .exit)) at r (hexadecimal (take count (now (trace .entry)))) × (r < at + 3 * count) ⌝ }
 {
     put_byte(out, at, trace[0]);
@@ -101,7 +101,7 @@ fn put_line(out: &mut [u8; LINES], word: &[u8], n: u32) -> usize
 
 // Writes the lines of a verdict "invalid" with its trace, and gives their length.
 fn put_invalid(out: &mut [u8; LINES], c: u32, l: usize, trace: &[u8; TRACE]) -> usize
-    requires { ⌜ (l ≤ 64) × (length (now trace) ≡ 129) ⌝ }
+    requires { ⌜ (l ≤ mostActs) × (length (now trace) ≡ longestTrace) ⌝ }
     ensures { λ r. ⌜ Put (now (out .entry)) (now (out .exit)) 0 r (printedFor (accepted (invalid c l)) (now (trace .entry))) × (r ≤ 512) ⌝ }
 {
     let p = put_counted(out, b"invalid", c);
@@ -115,7 +115,7 @@ fn put_invalid(out: &mut [u8; LINES], c: u32, l: usize, trace: &[u8; TRACE]) -> 
 
 // Writes what an answer prints, and gives its length.
 fn put_lines(out: &mut [u8; LINES], verdict: Verdict, trace: &[u8; TRACE]) -> usize
-    requires { ⌜ Printable verdict × (length (now trace) ≡ 129) ⌝ }
+    requires { ⌜ Printable verdict × (length (now trace) ≡ longestTrace) ⌝ }
     ensures { λ r. ⌜ (r ≡ length (printedFor (answerOf verdict) (now (trace .entry)))) × (now (out .exit) ≡ write (now (out .entry)) 0 (printedFor (answerOf verdict) (now (trace .entry)))) × (r ≤ 512) ⌝ }
 {
     match verdict {
@@ -128,10 +128,10 @@ fn put_lines(out: &mut [u8; LINES], verdict: Verdict, trace: &[u8; TRACE]) -> us
 }
 
 // Writes what planverify prints for a sheet from the first byte on, and gives its length.
-pub fn print(s: &[u8], out: &mut [u8; LINES]) -> usize
-    ensures { λ r. ⌜ (r ≡ length (printed (now (s .entry)))) × (now (out .exit) ≡ write (now (out .entry)) 0 (printed (now (s .entry)))) × (r ≤ 512) ⌝ }
+pub fn print(bytes: &[u8], out: &mut [u8; LINES]) -> usize
+    ensures { λ r. ⌜ (r ≡ length (printed (now (bytes .entry)))) × (now (out .exit) ≡ write (now (out .entry)) 0 (printed (now (bytes .entry)))) × (r ≤ 512) ⌝ }
 {
     let mut trace = [0u8; TRACE];
-    let verdict = verify(s, BUDGET, &mut trace);
+    let verdict = verify(bytes, BUDGET, &mut trace);
     put_lines(out, verdict, &trace)
 }

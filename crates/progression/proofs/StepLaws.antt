@@ -14,8 +14,8 @@ use Rattle.states.specs.declared.States.{States}
 use Rattle.states.specs.Sets.{member, setOf, members}
 use Rattle.states.proofs.SetLaws.{member-setOf, member-above, set-cong, members-setOf}
 use Rattle.format.specs.Syntax.{Action, change, probe, replyCount, Sheet, actionOf}
-use Rattle.format.specs.Truth.{isState, states, truth, moves, answers, allowed}
-use Rattle.format.proofs.StateLaws.{state-byte, state-listed, answer-exists, states-bytes}
+use Rattle.format.specs.Truth.{isState, states, truth, moves, replyHolds, allowed}
+use Rattle.format.proofs.StateLaws.{state-byte, state-listed, reply-exists, states-bytes}
 use Rattle.semantics.specs.Runs.{Entry, entry, History, step}
 use Rattle.semantics.specs.Progression.{possible, startSet, nextSet, setAfter}
 use Rattle.semantics.proofs.ProgressionLaws.{possible-keep, set-states}
@@ -36,7 +36,7 @@ module _ (sheet : Sheet) (few : sheet .facts ≤ 8) (sets : List ℕ) (k : ℕ) 
 
   -- The states to which an action with a reply leads from those possible before.
   abbrev after : Action → (r t : ℕ) → Bool
-  after x r t = space t && exists (λ s. before s && (moves x s t && answers x r t)) (states sheet)
+  after x r t = space t && exists (λ s. before s && (moves x s t && replyHolds x r t)) (states sheet)
 
   gathered-member : (set : States) (t : ℕ) → t < 256 → member (gathered sets k set) t ≡ exists (λ s. member set s && member (setAt sets (k + s)) t) (below 256)
   unfolding gathered
@@ -44,7 +44,7 @@ module _ (sheet : Sheet) (few : sheet .facts ≤ 8) (sets : List ℕ) (k : ℕ) 
 
   -- The effect of an action, in the states in which its reply is true.
   effect-answered : (x : Action) → ((j : ℕ) → j < length (rows space x) → setAt sets (k + j) ≡ getD (rows space x) j noStates)
-      → (r t : ℕ) → t < 256 → member (effect sets (headOf space k x) (setOf before)) t && answers x r t ≡ after x r t
+      → (r t : ℕ) → t < 256 → member (effect sets (headOf space k x) (setOf before)) t && replyHolds x r t ≡ after x r t
   unfolding rows moves
   effect-answered (change f) row r t l =
       let long : length (rows space (change f)) ≡ 256 = made-length (λ s. setOf (λ u. space s && space u && truth f s u)) 0 256 in
@@ -54,62 +54,62 @@ module _ (sheet : Sheet) (few : sheet .facts ≤ 8) (sets : List ℕ) (k : ℕ) 
       ap (λ (u : States). member u t) (row s (omega (arith, long, m)) ∙ made-get (λ s. setOf (λ u. space s && space u && truth f s u)) noStates 0 256 s m)
       ∙ member-setOf (λ u. space (0 + s) && space u && truth f (0 + s) u) t l ∙ ap (λ (v : ℕ). space v && space t && truth f v t) z in
       let some = gathered-member (setOf before) t l in
-      ap (λ (u : States). member u t && answers (change f) r t) (sym (effect-rows sets (headOf space k (change f)) (setOf before) (omega (arith, long))))
-      ∙ (same-test (member (gathered sets k (setOf before)) t && answers (change f) r t) (after (change f) r t)
+      ap (λ (u : States). member u t && replyHolds (change f) r t) (sym (effect-rows sets (headOf space k (change f)) (setOf before) (omega (arith, long))))
+      ∙ (same-test (member (gathered sets k (setOf before)) t && replyHolds (change f) r t) (after (change f) r t)
       (λ h.
-      let b = both-true (member (gathered sets k (setOf before)) t) (answers (change f) r t) h in
+      let b = both-true (member (gathered sets k (setOf before)) t) (replyHolds (change f) r t) h in
       let w = exists-mem (λ s. member (setOf before) s && member (setAt sets (k + s)) t) (below 256) (sym some ∙ b .0) in
       let m : w .0 < 256 = upFrom-mem 0 256 (w .1) .1 in
       let v = both-true (member (setOf before) (w .0)) (member (setAt sets (k + w .0)) t) (w .2) in
       let p : before (w .0) ≡ true = sym (member-setOf before (w .0) m) ∙ v .0 in
       let q = both-true (space (w .0) && space t) (truth f (w .0) t) (sym (has (w .0) m) ∙ v .1) in
       let u = both-true (space (w .0)) (space t) (q .0) in
-      and-both (space t) (exists (λ s. before s && (truth f s t && answers (change f) r t)) (states sheet)) (u .1)
-      (mem-exists (λ s. before s && (truth f s t && answers (change f) r t)) (states sheet) (state-listed sheet (w .0) (u .0))
-      (and-both (before (w .0)) (truth f (w .0) t && answers (change f) r t) p (and-both (truth f (w .0) t) (answers (change f) r t) (q .1) (b .1)))))
+      and-both (space t) (exists (λ s. before s && (truth f s t && replyHolds (change f) r t)) (states sheet)) (u .1)
+      (mem-exists (λ s. before s && (truth f s t && replyHolds (change f) r t)) (states sheet) (state-listed sheet (w .0) (u .0))
+      (and-both (before (w .0)) (truth f (w .0) t && replyHolds (change f) r t) p (and-both (truth f (w .0) t) (replyHolds (change f) r t) (q .1) (b .1)))))
       (λ h.
-      let b = both-true (space t) (exists (λ s. before s && (truth f s t && answers (change f) r t)) (states sheet)) h in
-      let w = exists-mem (λ s. before s && (truth f s t && answers (change f) r t)) (states sheet) (b .1) in
-      let v = both-true (before (w .0)) (truth f (w .0) t && answers (change f) r t) (w .2) in
-      let u = both-true (truth f (w .0) t) (answers (change f) r t) (v .1) in
+      let b = both-true (space t) (exists (λ s. before s && (truth f s t && replyHolds (change f) r t)) (states sheet)) h in
+      let w = exists-mem (λ s. before s && (truth f s t && replyHolds (change f) r t)) (states sheet) (b .1) in
+      let v = both-true (before (w .0)) (truth f (w .0) t && replyHolds (change f) r t) (w .2) in
+      let u = both-true (truth f (w .0) t) (replyHolds (change f) r t) (v .1) in
       let i = inside (w .0) (v .0) in
       let m = state-byte sheet few (w .0) i in
-      and-both (member (gathered sets k (setOf before)) t) (answers (change f) r t)
+      and-both (member (gathered sets k (setOf before)) t) (replyHolds (change f) r t)
       (some ∙ mem-exists (λ s. member (setOf before) s && member (setAt sets (k + s)) t) (below 256) (mem-upFrom 0 256 (w .0) (omega arith) (omega (arith, m)))
       (and-both (member (setOf before) (w .0)) (member (setAt sets (k + w .0)) t) (member-setOf before (w .0) m ∙ v .0)
       (has (w .0) m ∙ and-both (space (w .0) && space t) (truth f (w .0) t) (and-both (space (w .0)) (space t) i (b .0)) (u .0))))
       (u .1)))
   effect-answered (probe fs) row r t l =
-      ap (λ (u : States). member u t && answers (probe fs) r t) (sym (effect-none sets (headOf space k (probe fs)) (setOf before) (omega arith)))
-      ∙ (same-test (member (setOf before) t && answers (probe fs) r t) (after (probe fs) r t)
+      ap (λ (u : States). member u t && replyHolds (probe fs) r t) (sym (effect-none sets (headOf space k (probe fs)) (setOf before) (omega arith)))
+      ∙ (same-test (member (setOf before) t && replyHolds (probe fs) r t) (after (probe fs) r t)
       (λ h.
-      let b = both-true (member (setOf before) t) (answers (probe fs) r t) h in
+      let b = both-true (member (setOf before) t) (replyHolds (probe fs) r t) h in
       let p : before t ≡ true = sym (member-setOf before t l) ∙ b .0 in
       let i = inside t p in
-      and-both (space t) (exists (λ s. before s && (eqb s t && answers (probe fs) r t)) (states sheet)) i
-      (mem-exists (λ s. before s && (eqb s t && answers (probe fs) r t)) (states sheet) (state-listed sheet t i)
-      (and-both (before t) (eqb t t && answers (probe fs) r t) p (and-both (eqb t t) (answers (probe fs) r t) (eq-eqb t t refl) (b .1)))))
+      and-both (space t) (exists (λ s. before s && (eqb s t && replyHolds (probe fs) r t)) (states sheet)) i
+      (mem-exists (λ s. before s && (eqb s t && replyHolds (probe fs) r t)) (states sheet) (state-listed sheet t i)
+      (and-both (before t) (eqb t t && replyHolds (probe fs) r t) p (and-both (eqb t t) (replyHolds (probe fs) r t) (eq-eqb t t refl) (b .1)))))
       (λ h.
-      let b = both-true (space t) (exists (λ s. before s && (eqb s t && answers (probe fs) r t)) (states sheet)) h in
-      let w = exists-mem (λ s. before s && (eqb s t && answers (probe fs) r t)) (states sheet) (b .1) in
-      let v = both-true (before (w .0)) (eqb (w .0) t && answers (probe fs) r t) (w .2) in
-      let u = both-true (eqb (w .0) t) (answers (probe fs) r t) (v .1) in
-      and-both (member (setOf before) t) (answers (probe fs) r t) (member-setOf before t l ∙ ap before (sym (eqb-true (w .0) t (u .0))) ∙ v .0) (u .1)))
+      let b = both-true (space t) (exists (λ s. before s && (eqb s t && replyHolds (probe fs) r t)) (states sheet)) h in
+      let w = exists-mem (λ s. before s && (eqb s t && replyHolds (probe fs) r t)) (states sheet) (b .1) in
+      let v = both-true (before (w .0)) (eqb (w .0) t && replyHolds (probe fs) r t) (w .2) in
+      let u = both-true (eqb (w .0) t) (replyHolds (probe fs) r t) (v .1) in
+      and-both (member (setOf before) t) (replyHolds (probe fs) r t) (member-setOf before t l ∙ ap before (sym (eqb-true (w .0) t (u .0))) ∙ v .0) (u .1)))
 
   -- A reply that the action doesn't have is true nowhere.
   after-none : (x : Action) (r t : ℕ) → replyCount x ≤ r → after x r t ≡ false
   after-none x r t l =
       ⊎-elim (λ (e : after x r t ≡ true).
-      let b = both-true (space t) (exists (λ s. before s && (moves x s t && answers x r t)) (states sheet)) e in
-      let w = exists-mem (λ s. before s && (moves x s t && answers x r t)) (states sheet) (b .1) in
-      let v = both-true (before (w .0)) (moves x (w .0) t && answers x r t) (w .2) in
-      let u = both-true (moves x (w .0) t) (answers x r t) (v .1) in
-      absurd (omega (arith, l, answer-exists x r t (u .1))))
+      let b = both-true (space t) (exists (λ s. before s && (moves x s t && replyHolds x r t)) (states sheet)) e in
+      let w = exists-mem (λ s. before s && (moves x s t && replyHolds x r t)) (states sheet) (b .1) in
+      let v = both-true (before (w .0)) (moves x (w .0) t && replyHolds x r t) (w .2) in
+      let u = both-true (moves x (w .0) t) (replyHolds x r t) (v .1) in
+      absurd (omega (arith, l, reply-exists x r t (u .1))))
       (λ e. e) (two-cases (after x r t))
 
   -- One step of the machine.
   step-answered : (x : Action) → ((j : ℕ) → j < length (rows space x) → setAt sets (k + j) ≡ getD (rows space x) j noStates)
-      → ((r : ℕ) → r < replyCount x → setAt sets (k + length (rows space x) + r) ≡ setOf (λ t. answers x r t))
+      → ((r : ℕ) → r < replyCount x → setAt sets (k + length (rows space x) + r) ≡ setOf (λ t. replyHolds x r t))
       → (r : ℕ)
       → (if ltb r (replyCount x) then setOf (λ t. member (effect sets (headOf space k x) (setOf before)) t && member (setAt sets (k + length (rows space x) + r)) t) else setOf (λ t. false))
       ≡ setOf (λ t. after x r t)
@@ -121,7 +121,7 @@ module _ (sheet : Sheet) (few : sheet .facts ≤ 8) (sets : List ℕ) (k : ℕ) 
       go true e =
           set-cong _ _ (λ t l.
           ap (λ (b : Bool). member (effect sets (headOf space k x) (setOf before)) t && b)
-          (ap (λ (u : States). member u t) (reply r (ltb-true r (replyCount x) e)) ∙ member-setOf (λ u. answers x r u) t l)
+          (ap (λ (u : States). member u t) (reply r (ltb-true r (replyCount x) e)) ∙ member-setOf (λ u. replyHolds x r u) t l)
           ∙ effect-answered x row r t l)
       go false e = set-cong _ _ (λ t l. sym (after-none x r t (ltb-false r (replyCount x) e)))
 

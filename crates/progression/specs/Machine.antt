@@ -14,7 +14,7 @@ use Rattle.routine.specs.Memory.{nodeMost, setAt, nodeAt, headAt}
 use Rattle.routine.specs.Tables.{sheetHeads, nodeCells, setWords, low}
 use Rattle.progression.specs.declared.place.Place.{Place}
 
--- Whether every state of a set is in set k of a memory: "a formula is known .. if it holds in the last state of every run". (2013: in every state of the knowledge
+-- Whether every state of a set is in set k of a memory: "A formula is known after a history if it holds in the last state of every run with that history." (2013: in every state of the knowledge
 -- state.)
 unfoldable pub knownBy : (sets : List ℕ) → States → (k : ℕ) → Bool
 unfolding every member setAt members

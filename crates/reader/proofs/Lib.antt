@@ -1,9 +1,7 @@
 pub mod AnswerLaws
-pub mod StandingLaws
 pub mod BitLaws
-pub mod ReaderLaws
+pub mod EvaluationLaws
+pub mod EndLaws
 pub mod TestLaws
-pub mod NodeLaws
-pub mod TableLaws
 pub mod ProgramLaws
-pub mod StageLaws
+pub mod BodyLaws

@@ -1,17 +1,20 @@
--- What the answers of the code mean: document 01's number for each refusal, and what the readers of specs/Format.antt find.
+-- What the answers of the reader's public functions mean: document 01's number for each refusal, and what the readers of the format (crate `format`) find.
 use Prim.Native.Nat.{ℕ}
 use mathlib.Core.Bool.{Bool, true, false}
 use Rattle.states.specs.declared.States.{States}
 use Rattle.states.specs.Sets.{setOf}
-use Rattle.format.specs.Syntax.{Objective, Sheet}
-use Rattle.format.specs.Truth.{truth}
-use Rattle.format.specs.Format.{Answer, accepted, refused, Read, got, fault, ProgramRead}
+use Rattle.format.specs.Syntax.{Objective}
+use Rattle.format.specs.Truth.{inSpace, truth}
+use Rattle.format.specs.Format.{Answer, accepted, refused, Read, got, fault, Header, Kind, changes, probes, EpistemicNode, known-node, not-known-node, all-of-node, any-of-node, ProgramNode, end-node, act-node, branch-node}
 use Rattle.reader.specs.declared.refusal.Refusal.{Refusal}
-use Rattle.reader.specs.declared.bits.Field.{Field}
 use Rattle.reader.specs.declared.formula.View.{View}
-use Rattle.reader.specs.declared.formula.Walked.{Walked}
 use Rattle.reader.specs.declared.formula.Evaluated.{Evaluated}
-use Rattle.reader.specs.declared.program.Counted.{Counted}
+use Rattle.reader.specs.declared.layout.Header.{Header as HeaderValue}
+use Rattle.reader.specs.declared.layout.ParsedHeader.{ParsedHeader}
+use Rattle.reader.specs.declared.nodes.ActionKind.{ActionKind}
+use Rattle.reader.specs.declared.nodes.ReplyTotal.{ReplyTotal}
+use Rattle.reader.specs.declared.nodes.EpistemicNode.{EpistemicNode as EpistemicFound}
+use Rattle.reader.specs.declared.nodes.ProgramNode.{ProgramNode as ProgramFound}
 use Rattle.reader.specs.declared.sheet.Answer.{Answer as Said}
 
 -- "From the sheet": the number of each refusal.
@@ -43,46 +46,59 @@ unfoldable pub withoutValue : {A : Type 0} → Answer A → Answer (Unit {0})
 withoutValue (accepted a) = accepted tt
 withoutValue (refused r) = refused r
 
--- What the code finds from a position on: a number; only where it ends; a set; the nodes counted so far.
-unfoldable pub fieldRead : Field → Read ℕ
-fieldRead (Field.Value v p) = got v p
-fieldRead Field.Cut = fault 2
+-- What the header says, as a value of the code; with the states as a set.
+unfoldable pub headerOf : HeaderValue → Header
+headerOf h = record { edition = h .edition; facts = h .facts; actions = h .actions }
 
-unfoldable pub endRead : Walked → Read (Unit {0})
+unfoldable pub headerRead : ParsedHeader → Read (Header × States)
+unfolding numberOf headerOf
+headerRead (ParsedHeader.Read h) = got (headerOf h, h .space) (h .at)
+headerRead (ParsedHeader.Refused r) = fault (numberOf r)
+
+unfoldable pub spaced : Header → Header × States
+unfolding setOf inSpace
+spaced h = (h, setOf (inSpace (h .facts)))
+
+-- The kind of an action, a reply count, the first node of an epistemic formula and of a program, each with the position after it.
+unfoldable pub kindRead : ActionKind → Read Kind
 unfolding numberOf
-endRead (Walked.To p) = got tt p
-endRead (Walked.Refused r) = fault (numberOf r)
+kindRead (ActionKind.Change p) = got changes p
+kindRead (ActionKind.Probe p) = got probes p
+kindRead (ActionKind.Refused r) = fault (numberOf r)
 
+unfoldable pub totalRead : ReplyTotal → Read ℕ
+unfolding numberOf
+totalRead (ReplyTotal.Count m p) = got m p
+totalRead (ReplyTotal.Refused r) = fault (numberOf r)
+
+unfoldable pub epistemicNodeRead : EpistemicFound → Read EpistemicNode
+unfolding numberOf
+epistemicNodeRead (EpistemicFound.Known p) = got known-node p
+epistemicNodeRead (EpistemicFound.NotKnown p) = got not-known-node p
+epistemicNodeRead (EpistemicFound.AllOf p) = got all-of-node p
+epistemicNodeRead (EpistemicFound.AnyOf p) = got any-of-node p
+epistemicNodeRead (EpistemicFound.Refused r) = fault (numberOf r)
+
+unfoldable pub programNodeRead : ProgramFound → Read ProgramNode
+unfolding numberOf
+programNodeRead (ProgramFound.End p) = got end-node p
+programNodeRead (ProgramFound.Act a p) = got (act-node a) p
+programNodeRead (ProgramFound.Branch p) = got branch-node p
+programNodeRead (ProgramFound.Refused r) = fault (numberOf r)
+
+-- A set of states with the position after the formula that it was evaluated from.
 unfoldable pub setRead : Evaluated → Read States
 unfolding numberOf
 setRead (Evaluated.Holds set p) = got set p
 setRead (Evaluated.Refused r) = fault (numberOf r)
-
-unfoldable pub countRead : Counted → Read (ℕ × ℕ)
-unfolding numberOf
-countRead (Counted.To p) = got (p .acts, p .branches) (p .at)
-countRead (Counted.Refused r) = fault (numberOf r)
 
 -- Whether a formula in a view is a theory.
 unfoldable pub inTheory : View → Bool
 inTheory View.States = false
 inTheory (View.Next s) = true
 
--- The set of a formula in a view: the states in which it holds; of a theory, the next states that it allows from a state, or the states from which it
--- allows a next state.
-unfoldable pub table : View → Objective → States
+-- The set of a formula in a view: the states in which it holds; of a theory, the next states that it allows from a state.
+unfoldable pub statesIn : View → Objective → States
 unfolding setOf truth
-table View.States f = setOf (λ s. truth f s s)
-table (View.Next s) f = setOf (λ t. truth f s t)
-
--- The states in which a sheet's start formula holds.
-unfoldable pub startSet : Sheet → States
-unfolding table
-startSet sheet = table View.States (sheet .start)
-
--- Only where something ends; the nodes counted up to the end of a program.
-unfoldable pub ending : {A : Type 0} → A → Unit {0}
-ending a = tt
-
-unfoldable pub counts : ProgramRead → ℕ × ℕ
-counts c = (c .acts, c .branches)
+statesIn View.States f = setOf (λ s. truth f s s)
+statesIn (View.Next s) f = setOf (λ t. truth f s t)

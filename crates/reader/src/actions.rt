@@ -1,37 +1,37 @@
 // Actions: reading them, and the tests behind 14 and 15.
-use crate::bits::Field;
-use crate::bits::field_at;
 use crate::formula::Evaluated;
 use crate::formula::View;
 use crate::formula::Walked;
 use crate::formula::evaluate;
 use crate::formula::read_objective;
 use crate::limits::DEPTH;
-use crate::limits::REPLIES;
+use crate::nodes::ActionKind;
+use crate::nodes::ReplyTotal;
+use crate::nodes::kind_at;
+use crate::nodes::total_at;
 use crate::refusal::Refusal;
 use states::States;
 ghost use mathlib.Core.Path.{_≡_};
-ghost use mathlib.Core.Bool.{true, false, _&&_};
-ghost use Prim.Native.Nat.{ℕ, _≤_, _<_};
+ghost use mathlib.Core.List.{List, flatMap};
+ghost use Prim.Native.Nat.{ℕ, _≤_};
 ghost use lib.ListN.{length};
-ghost use Rattle.lists.specs.Lists.{every, exists};
-ghost use Rattle.states.specs.Sets.{member, setOf, members};
-ghost use Rattle.format.specs.Syntax.{Objective, change, probe};
+ghost use Rattle.states.specs.Sets.{members};
+ghost use Rattle.format.specs.Syntax.{Objective, Action, probe};
 ghost use Rattle.format.specs.Truth.{truth};
-ghost use Rattle.format.specs.Format.{got, mapped, objective, objectives, replies, action, actionList};
-ghost use Rattle.reader.specs.Answers.{setRead, endRead, ending, table};
+ghost use Rattle.format.specs.Format.{got, mapped, mostBytes, objectives, theory, replies, action, actionList, leadsOn, hasReply, unless, actionFaults, decided};
+ghost use Rattle.reader.specs.Answers.{setRead, statesIn};
+ghost use Rattle.reader.specs.Method.{endRead, passedTo, ending, someHolds};
 ghost use Rattle.reader.specs.declared.formula.View.{View};
-ghost use Rattle.reader.specs.Stages.{someHolds, tested, testedList};
 
 // m objective formulas: the states in which one of them holds, and where they end.
-fn evaluate_some(s: &[u8], at: usize, m: usize, n: usize) -> Evaluated
-    requires { ⌜ length (now s) ≤ 1024 ⌝ }
-    ensures { λ r. ⌜ setRead r ≡ mapped someHolds (objectives n m (now (s .entry)) at) ⌝ }
+fn evaluate_some(bytes: &[u8], at: usize, m: usize, n: usize) -> Evaluated
+    requires { ⌜ length (now bytes) ≤ mostBytes ⌝ }
+    ensures { λ r. ⌜ setRead r ≡ mapped someHolds (objectives n m (now (bytes .entry)) at) ⌝ }
 {
     let mut set = States::empty();
     let mut p = at;
     for i in 0..m {
-        match evaluate(s, p, DEPTH, n, View::States) {
+        match evaluate(bytes, p, DEPTH, n, View::States) {
             Evaluated::Refused(r) => {
                 return Evaluated::Refused(r);
             }
@@ -45,51 +45,39 @@ fn evaluate_some(s: &[u8], at: usize, m: usize, n: usize) -> Evaluated
 }
 
 // A probe behind its kind: the states in which a reply is true, and where it ends.
-fn evaluate_replies(s: &[u8], at: usize, n: usize) -> Evaluated
-    requires { ⌜ length (now s) ≤ 1024 ⌝ }
-    ensures { λ r. ⌜ setRead r ≡ mapped someHolds (replies n (now (s .entry)) at) ⌝ }
+fn evaluate_replies(bytes: &[u8], at: usize, n: usize) -> Evaluated
+    requires { ⌜ length (now bytes) ≤ mostBytes ⌝ }
+    ensures { λ r. ⌜ setRead r ≡ mapped someHolds (replies n (now (bytes .entry)) at) ⌝ }
 {
-    match field_at(s, at, 4) {
-        Field::Cut => Evaluated::Refused(Refusal::Cut),
-        Field::Value(m, next) => {
-            if m < 1 {
-                return Evaluated::Refused(Refusal::Replies);
-            }
-            if REPLIES < m {
-                return Evaluated::Refused(Refusal::Replies);
-            }
-            evaluate_some(s, next, m, n)
-        }
+    match total_at(bytes, at) {
+        ReplyTotal::Refused(r) => Evaluated::Refused(r),
+        ReplyTotal::Count(m, next) => evaluate_some(bytes, next, m, n),
     }
 }
 
 // An action over n facts, only where it ends. (A theory's end is the same whatever the state.)
-fn read_action(s: &[u8], at: usize, n: usize) -> Walked
-    requires { ⌜ length (now s) ≤ 1024 ⌝ }
-    ensures { λ r. ⌜ endRead r ≡ mapped ending (action n (now (s .entry)) at) ⌝ }
+fn read_action(bytes: &[u8], at: usize, n: usize) -> Walked
+    requires { ⌜ length (now bytes) ≤ mostBytes ⌝ }
+    ensures { λ r. ⌜ endRead r ≡ mapped ending (action n (now (bytes .entry)) at) ⌝ }
 {
-    match field_at(s, at, 1) {
-        Field::Cut => Walked::Refused(Refusal::Cut),
-        Field::Value(kind, next) => {
-            if kind == 0 {
-                return read_objective(s, next, DEPTH, n, View::Next(0));
-            }
-            match evaluate_replies(s, next, n) {
-                Evaluated::Refused(r) => Walked::Refused(r),
-                Evaluated::Holds(set, end) => Walked::To(end),
-            }
-        }
+    match kind_at(bytes, at) {
+        ActionKind::Refused(r) => Walked::Refused(r),
+        ActionKind::Change(next) => read_objective(bytes, next, DEPTH, n, View::Next(0)),
+        ActionKind::Probe(next) => match evaluate_replies(bytes, next, n) {
+            Evaluated::Refused(r) => Walked::Refused(r),
+            Evaluated::Holds(set, end) => Walked::To(end),
+        },
     }
 }
 
 // k actions over n facts, only where they end.
-pub(crate) fn read_actions(s: &[u8], at: usize, n: usize, k: usize) -> Walked
-    requires { ⌜ length (now s) ≤ 1024 ⌝ }
-    ensures { λ r. ⌜ endRead r ≡ mapped ending (actionList n k (now (s .entry)) at) ⌝ }
+pub(crate) fn read_actions(bytes: &[u8], at: usize, n: usize, k: usize) -> Walked
+    requires { ⌜ length (now bytes) ≤ mostBytes ⌝ }
+    ensures { λ r. ⌜ endRead r ≡ mapped ending (actionList n k (now (bytes .entry)) at) ⌝ }
 {
     let mut p = at;
     for i in 0..k {
-        match read_action(s, p, n) {
+        match read_action(bytes, p, n) {
             Walked::Refused(r) => {
                 return Walked::Refused(r);
             }
@@ -101,30 +89,30 @@ pub(crate) fn read_actions(s: &[u8], at: usize, n: usize, k: usize) -> Walked
     Walked::To(p)
 }
 
-// The next states that the theory at `at` allows from a state.
-fn states_after(s: &[u8], at: usize, n: usize, state: u8) -> States
-    requires { ⌜ length (now s) ≤ 1024 ⌝ }
-    ensures { λ r. ⌜ ((theory : Objective) (end : ℕ) → objective n true 16 (now (s .entry)) at ≡ got theory end → r ≡ table (View.Next state) theory) ⌝ }
+// The next states that the theory at a position allows from a state.
+fn states_after(bytes: &[u8], at: usize, n: usize, state: u8) -> States
+    requires { ⌜ length (now bytes) ≤ mostBytes ⌝ }
+    ensures { λ r. ⌜ ((f : Objective) (end : ℕ) → theory n (now (bytes .entry)) at ≡ got f end → r ≡ statesIn (View.Next state) f) ⌝ }
 {
-    match evaluate(s, at, DEPTH, n, View::Next(state)) {
+    match evaluate(bytes, at, DEPTH, n, View::Next(state)) {
         Evaluated::Refused(r) => States::empty(),
         Evaluated::Holds(set, end) => set,
     }
 }
 
-// Whether the theory at `at` allows from each state of the space, all of them below `size`, a next state in the space. One
-// evaluation gives the next states of a state.
-fn leads_on(s: &[u8], at: usize, n: usize, space: States, size: usize) -> bool
-    requires { ⌜ (length (now s) ≤ 1024) × (size ≤ 256) × ((t : ℕ) → member space t ≡ true → t < size) ⌝ }
-    ensures { λ r. ⌜ ((theory : Objective) (end : ℕ) → objective n true 16 (now (s .entry)) at ≡ got theory end → r ≡ every (λ x. exists (λ t. truth theory x t) (members space)) (members space)) ⌝ }
+// Whether the theory at a position allows from each state of the space a next state in the space. One evaluation gives all
+// next states of a state.
+fn leads_on(bytes: &[u8], at: usize, n: usize, space: States) -> bool
+    requires { ⌜ length (now bytes) ≤ mostBytes ⌝ }
+    ensures { λ r. ⌜ ((f : Objective) (end : ℕ) → theory n (now (bytes .entry)) at ≡ got f end → r ≡ leadsOn (members space) (truth f)) ⌝ }
 {
-    'states: for old in 0..size {
+    'states: for old in 0..256usize {
         let state = (old % 256) as u8;
         if !space.has(state) {
             continue 'states;
         }
-        let row = states_after(s, at, n, state).intersect(space);
-        for new in 0..size {
+        let row = states_after(bytes, at, n, state).intersect(space);
+        for new in 0..256usize {
             let next = (new % 256) as u8;
             if row.has(next) {
                 continue 'states;
@@ -135,28 +123,23 @@ fn leads_on(s: &[u8], at: usize, n: usize, space: States, size: usize) -> bool
     true
 }
 
-// The test behind 14 on the theory at `at`: where it ends, or the refusal.
-fn test_change(s: &[u8], at: usize, n: usize, space: States, size: usize) -> Walked
-    requires { ⌜ (length (now s) ≤ 1024) × (size ≤ 256) × ((t : ℕ) → member space t ≡ true → t < size) ⌝ }
-    ensures { λ r. ⌜ endRead r ≡ tested (members space) (mapped change (objective n true 16 (now (s .entry)) at)) ⌝ }
+// The test behind 14 on the theory at a position: where it ends, or the refusal.
+fn test_theory(bytes: &[u8], at: usize, n: usize, space: States) -> Walked
+    requires { ⌜ length (now bytes) ≤ mostBytes ⌝ }
+    ensures { λ r. ⌜ ((f : Objective) (end : ℕ) → theory n (now (bytes .entry)) at ≡ got f end → passedTo r ≡ decided (unless (leadsOn (members space) (truth f)) 14) end) ⌝ }
 {
-    match evaluate(s, at, DEPTH, n, View::Next(0)) {
-        Evaluated::Refused(r) => Walked::Refused(r),
-        Evaluated::Holds(row, end) => {
-            if leads_on(s, at, n, space, size) {
-                return Walked::To(end);
-            }
-            Walked::Refused(Refusal::NoNext)
-        }
+    if leads_on(bytes, at, n, space) {
+        return read_objective(bytes, at, DEPTH, n, View::Next(0));
     }
+    Walked::Refused(Refusal::NoNext)
 }
 
-// The test behind 15 on the replies at `at`: where they end, or the refusal.
-fn test_probe(s: &[u8], at: usize, n: usize, space: States) -> Walked
-    requires { ⌜ length (now s) ≤ 1024 ⌝ }
-    ensures { λ r. ⌜ endRead r ≡ tested (members space) (mapped probe (replies n (now (s .entry)) at)) ⌝ }
+// The test behind 15 on the replies at a position: where they end, or the refusal.
+fn test_replies(bytes: &[u8], at: usize, n: usize, space: States) -> Walked
+    requires { ⌜ length (now bytes) ≤ mostBytes ⌝ }
+    ensures { λ r. ⌜ ((fs : List Objective) (end : ℕ) → replies n (now (bytes .entry)) at ≡ got fs end → passedTo r ≡ decided (unless (hasReply (members space) (probe fs)) 15) end) ⌝ }
 {
-    match evaluate_replies(s, at, n) {
+    match evaluate_replies(bytes, at, n) {
         Evaluated::Refused(r) => Walked::Refused(r),
         Evaluated::Holds(set, end) => {
             if space.difference(set).is_empty() {
@@ -167,37 +150,26 @@ fn test_probe(s: &[u8], at: usize, n: usize, space: States) -> Walked
     }
 }
 
-// The test of an action on the states of the space.
-fn test_action(s: &[u8], at: usize, n: usize, space: States, size: usize) -> Walked
-    requires { ⌜ (length (now s) ≤ 1024) × (size ≤ 256) × ((t : ℕ) → member space t ≡ true → t < size) ⌝ }
-    ensures { λ r. ⌜ endRead r ≡ tested (members space) (action n (now (s .entry)) at) ⌝ }
+// The tests of the action at a position: where it ends, or the refusal.
+fn test_action(bytes: &[u8], at: usize, n: usize, space: States) -> Walked
+    requires { ⌜ length (now bytes) ≤ mostBytes ⌝ }
+    ensures { λ r. ⌜ ((a : Action) (end : ℕ) → action n (now (bytes .entry)) at ≡ got a end → passedTo r ≡ decided (actionFaults (members space) a) end) ⌝ }
 {
-    match field_at(s, at, 1) {
-        Field::Cut => Walked::Refused(Refusal::Cut),
-        Field::Value(kind, next) => {
-            if kind == 0 {
-                return test_change(s, next, n, space, size);
-            }
-            test_probe(s, next, n, space)
-        }
+    match kind_at(bytes, at) {
+        ActionKind::Refused(r) => Walked::Refused(r),
+        ActionKind::Change(next) => test_theory(bytes, next, n, space),
+        ActionKind::Probe(next) => test_replies(bytes, next, n, space),
     }
 }
 
-// The tests of k actions, by action number.
-pub(crate) fn test_actions(
-    s: &[u8],
-    at: usize,
-    n: usize,
-    k: usize,
-    space: States,
-    size: usize,
-) -> Walked
-    requires { ⌜ (length (now s) ≤ 1024) × (size ≤ 256) × ((t : ℕ) → member space t ≡ true → t < size) ⌝ }
-    ensures { λ r. ⌜ endRead r ≡ testedList (members space) n k (now (s .entry)) at ⌝ }
+// The tests of the k actions at a position, by action number: where they end, or the first refusal.
+pub(crate) fn test_actions(bytes: &[u8], at: usize, n: usize, k: usize, space: States) -> Walked
+    requires { ⌜ length (now bytes) ≤ mostBytes ⌝ }
+    ensures { λ r. ⌜ ((actions : List Action) (end : ℕ) → actionList n k (now (bytes .entry)) at ≡ got actions end → passedTo r ≡ decided (flatMap (actionFaults (members space)) actions) end) ⌝ }
 {
     let mut p = at;
     for i in 0..k {
-        match test_action(s, p, n, space, size) {
+        match test_action(bytes, p, n, space) {
             Walked::Refused(r) => {
                 return Walked::Refused(r);
             }

@@ -2,6 +2,10 @@
 use crate::bits::Field;
 use crate::bits::field_at;
 use crate::bits::wide;
+use crate::limits::BYTES;
+use crate::limits::DEPTH;
+use crate::nodes::EpistemicNode;
+use crate::nodes::epistemic_at;
 use crate::refusal::Refusal;
 use states::States;
 ghost use mathlib.Core.Path.{_≡_};
@@ -10,9 +14,9 @@ ghost use Prim.Native.Nat.{_≤_, _<_};
 ghost use lib.ListN.{length};
 ghost use Rattle.states.specs.Sets.{member, setOf};
 ghost use Rattle.format.specs.Truth.{factIn};
-ghost use Rattle.format.specs.Format.{mapped, factNumber, objective, epistemic};
-ghost use Rattle.reader.specs.Answers.{setRead, endRead, inTheory, table, ending};
-ghost use Rattle.reader.specs.Tables.{factTable, joined};
+ghost use Rattle.format.specs.Format.{mapped, mostBytes, mostFacts, deepest, factNumber, objective, epistemic, ofSheet};
+ghost use Rattle.reader.specs.Answers.{setRead, inTheory, statesIn};
+ghost use Rattle.reader.specs.Method.{endRead, ending, factStates, joined};
 
 // A set of states and the position after what was read, or why it was refused.
 pub enum Evaluated {
@@ -36,7 +40,7 @@ pub(crate) enum Walked {
 
 // The states in which fact i is true.
 fn holding_fact(i: usize) -> States
-    requires { ⌜ i < 8 ⌝ }
+    requires { ⌜ i < mostFacts ⌝ }
     ensures { λ r. ⌜ r ≡ setOf (λ t. factIn t i) ⌝ }
 {
     match i {
@@ -75,8 +79,8 @@ fn repeated(w: u64) -> States
 
 // The states of a view in which fact i is true, as a fact or, where `fresh`, as a new fact.
 fn seen(i: usize, fresh: bool, view: View) -> States
-    requires { ⌜ i < 8 ⌝ }
-    ensures { λ r. ⌜ r ≡ factTable fresh view i ⌝ }
+    requires { ⌜ i < mostFacts ⌝ }
+    ensures { λ r. ⌜ r ≡ factStates fresh view i ⌝ }
 {
     match view {
         View::States => holding_fact(i),
@@ -90,11 +94,11 @@ fn seen(i: usize, fresh: bool, view: View) -> States
 }
 
 // A fact number below n, and the states of a view in which the fact is true.
-fn evaluate_fact(s: &[u8], at: usize, n: usize, fresh: bool, view: View) -> Evaluated
-    requires { ⌜ length (now s) ≤ 1024 ⌝ }
-    ensures { λ r. ⌜ setRead r ≡ mapped (factTable fresh view) (factNumber n (now (s .entry)) at) ⌝ }
+fn evaluate_fact(bytes: &[u8], at: usize, n: usize, fresh: bool, view: View) -> Evaluated
+    requires { ⌜ length (now bytes) ≤ mostBytes ⌝ }
+    ensures { λ r. ⌜ setRead r ≡ mapped (factStates fresh view) (factNumber n (now (bytes .entry)) at) ⌝ }
 {
-    match field_at(s, at, 3) {
+    match field_at(bytes, at, 3) {
         Field::Cut => Evaluated::Refused(Refusal::Cut),
         Field::Value(i, next) => {
             if n <= i {
@@ -129,35 +133,35 @@ fn join(tag: usize, a: States, b: States) -> States
 }
 
 // An objective formula over n facts with `left` levels of depth left, evaluated in all states of a view at once.
-pub(crate) fn evaluate(s: &[u8], at: usize, left: usize, n: usize, view: View) -> Evaluated
-    requires { ⌜ length (now s) ≤ 1024 ⌝ }
-    ensures { λ r. ⌜ setRead r ≡ mapped (table view) (objective n (inTheory view) left (now (s .entry)) at) ⌝ }
+pub(crate) fn evaluate(bytes: &[u8], at: usize, left: usize, n: usize, view: View) -> Evaluated
+    requires { ⌜ length (now bytes) ≤ mostBytes ⌝ }
+    ensures { λ r. ⌜ setRead r ≡ mapped (statesIn view) (objective n (inTheory view) left (now (bytes .entry)) at) ⌝ }
 {
     if left == 0 {
         return Evaluated::Refused(Refusal::Depth);
     }
-    match field_at(s, at, 3) {
+    match field_at(bytes, at, 3) {
         Field::Cut => Evaluated::Refused(Refusal::Cut),
         Field::Value(tag, next) => {
             if tag < 2 {
                 return Evaluated::Holds(States::uniform(tag == 1), next);
             }
             if tag == 2 {
-                return evaluate_fact(s, next, n, false, view);
+                return evaluate_fact(bytes, next, n, false, view);
             }
             if tag == 3 {
                 if is_theory(view) {
-                    return evaluate_fact(s, next, n, true, view);
+                    return evaluate_fact(bytes, next, n, true, view);
                 }
                 return Evaluated::Refused(Refusal::NewFact);
             }
-            match evaluate(s, next, left - 1, n, view) {
+            match evaluate(bytes, next, left - 1, n, view) {
                 Evaluated::Refused(r) => Evaluated::Refused(r),
                 Evaluated::Holds(a, second) => {
                     if tag == 4 {
                         return Evaluated::Holds(a.complement(), second);
                     }
-                    match evaluate(s, second, left - 1, n, view) {
+                    match evaluate(bytes, second, left - 1, n, view) {
                         Evaluated::Refused(r) => Evaluated::Refused(r),
                         Evaluated::Holds(b, end) => Evaluated::Holds(join(tag, a, b), end),
                     }
@@ -168,34 +172,49 @@ pub(crate) fn evaluate(s: &[u8], at: usize, left: usize, n: usize, view: View) -
 }
 
 // An epistemic formula over n facts with `left` levels of depth left.
-pub(crate) fn read_epistemic(s: &[u8], at: usize, left: usize, n: usize) -> Walked
-    requires { ⌜ length (now s) ≤ 1024 ⌝ }
-    ensures { λ r. ⌜ endRead r ≡ mapped ending (epistemic n left (now (s .entry)) at) ⌝ }
+pub(crate) fn read_epistemic(bytes: &[u8], at: usize, left: usize, n: usize) -> Walked
+    requires { ⌜ length (now bytes) ≤ mostBytes ⌝ }
+    ensures { λ r. ⌜ endRead r ≡ mapped ending (epistemic n left (now (bytes .entry)) at) ⌝ }
 {
     if left == 0 {
         return Walked::Refused(Refusal::Depth);
     }
-    match field_at(s, at, 2) {
-        Field::Cut => Walked::Refused(Refusal::Cut),
-        Field::Value(tag, next) => {
-            if tag < 2 {
-                return read_objective(s, next, left - 1, n, View::States);
-            }
-            match read_epistemic(s, next, left - 1, n) {
-                Walked::Refused(r) => Walked::Refused(r),
-                Walked::To(second) => read_epistemic(s, second, left - 1, n),
-            }
+    let next = match epistemic_at(bytes, at) {
+        EpistemicNode::Refused(r) => {
+            return Walked::Refused(r);
         }
+        EpistemicNode::Known(p) => {
+            return read_objective(bytes, p, left - 1, n, View::States);
+        }
+        EpistemicNode::NotKnown(p) => {
+            return read_objective(bytes, p, left - 1, n, View::States);
+        }
+        EpistemicNode::AllOf(p) => p,
+        EpistemicNode::AnyOf(p) => p,
+    };
+    match read_epistemic(bytes, next, left - 1, n) {
+        Walked::Refused(r) => Walked::Refused(r),
+        Walked::To(second) => read_epistemic(bytes, second, left - 1, n),
     }
 }
 
 // An objective formula in a view, only where it ends.
-pub(crate) fn read_objective(s: &[u8], at: usize, left: usize, n: usize, view: View) -> Walked
-    requires { ⌜ length (now s) ≤ 1024 ⌝ }
-    ensures { λ r. ⌜ endRead r ≡ mapped ending (objective n (inTheory view) left (now (s .entry)) at) ⌝ }
+pub(crate) fn read_objective(bytes: &[u8], at: usize, left: usize, n: usize, view: View) -> Walked
+    requires { ⌜ length (now bytes) ≤ mostBytes ⌝ }
+    ensures { λ r. ⌜ endRead r ≡ mapped ending (objective n (inTheory view) left (now (bytes .entry)) at) ⌝ }
 {
-    match evaluate(s, at, left, n, view) {
+    match evaluate(bytes, at, left, n, view) {
         Evaluated::Refused(r) => Walked::Refused(r),
         Evaluated::Holds(set, end) => Walked::To(end),
     }
+}
+
+// The objective formula over n facts at a position: its set in a view, and the position after it.
+pub fn objective_states(bytes: &[u8], at: usize, n: usize, view: View) -> Evaluated
+    ensures { λ r. ⌜ setRead r ≡ mapped (statesIn view) (ofSheet (objective n (inTheory view) deepest) (now (bytes .entry)) at) ⌝ }
+{
+    if BYTES < bytes.len() {
+        return Evaluated::Refused(Refusal::Length);
+    }
+    evaluate(bytes, at, DEPTH, n, view)
 }

@@ -1,16 +1,18 @@
-// What the header of a sheet says.
+// The header of a sheet, as a value.
 use crate::refusal::Refusal;
 use states::States;
 
-// The number of facts, the number of actions, the states, and the position of the first action.
+// The edition, by which the fields behind the header are read, the number of facts, the number of actions, the states, and
+// the position behind the header.
 pub struct Header {
+    pub edition: usize,
     pub facts: usize,
     pub actions: usize,
     pub space: States,
     pub at: usize,
 }
 
-pub enum HeaderRead {
+pub enum ParsedHeader {
     Read(Header),
     Refused(Refusal),
 }

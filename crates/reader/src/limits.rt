@@ -19,5 +19,5 @@ pub const ACTION_NODES: usize = 64;
 
 pub const BRANCH_NODES: usize = 63;
 
-// The levels that a program may have, with an end: enough for all its nodes.
-pub(crate) const LEVELS: usize = 128;
+// The levels that a program may have: one for each of its nodes, and one for an end.
+pub(crate) const LEVELS: usize = ACTION_NODES + BRANCH_NODES + 1;

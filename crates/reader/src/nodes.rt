@@ -1,15 +1,12 @@
-// Walking through a sheet: its header, and the first node at a position.
+// Walking through a sheet: its header, and the first node at a position. The inner functions are told that the sheet is
+// short enough; the public ones test it.
 use crate::bits::Field;
 use crate::bits::field_at;
-use crate::formula::Evaluated;
-use crate::formula::View;
-use crate::formula::evaluate;
 use crate::layout::Header;
-use crate::layout::HeaderRead;
+use crate::layout::ParsedHeader;
 use crate::limits::ACTION_NODES;
 use crate::limits::BRANCH_NODES;
 use crate::limits::BYTES;
-use crate::limits::DEPTH;
 use crate::limits::EDITION;
 use crate::limits::FACTS;
 use crate::limits::REPLIES;
@@ -18,15 +15,19 @@ use states::States;
 ghost use mathlib.Core.Path.{_≡_};
 ghost use Prim.Native.Nat.{_≤_};
 ghost use lib.ListN.{length};
-ghost use Rattle.format.specs.Format.{deepest, mapped, objective, header as headerFields, epistemicHead, programHead, ofSheet};
-ghost use Rattle.reader.specs.Nodes.{actionHead};
-ghost use Rattle.reader.specs.Answers.{setRead, inTheory, table};
-ghost use Rattle.reader.specs.NodeAnswers.{spaced, headerRead, actionNodeRead, epistemicNodeRead, programNodeRead};
+ghost use Rattle.format.specs.Format.{mapped, mostBytes, isEdition, header as headerFields, kind, replyTotal, epistemicNode, programNode, ofSheet};
+ghost use Rattle.reader.specs.Answers.{spaced, headerRead, kindRead, totalRead, epistemicNodeRead, programNodeRead};
 
-// The first node of an action, a probe with its reply count, and the position after it.
-pub enum ActionNode {
+// The kind of an action, and the position after it.
+pub enum ActionKind {
     Change(usize),
-    Probe(usize, usize),
+    Probe(usize),
+    Refused(Refusal),
+}
+
+// The reply count of a probe, and the position after it.
+pub enum ReplyTotal {
+    Count(usize, usize),
     Refused(Refusal),
 }
 
@@ -48,32 +49,33 @@ pub enum ProgramNode {
 }
 
 // The header of a sheet.
-pub fn header(s: &[u8]) -> HeaderRead
-    ensures { λ r. ⌜ headerRead r ≡ mapped spaced (ofSheet headerFields (now (s .entry)) 0) ⌝ }
+pub fn header(bytes: &[u8]) -> ParsedHeader
+    ensures { λ r. ⌜ headerRead r ≡ mapped spaced (ofSheet (headerFields isEdition) (now (bytes .entry)) 0) ⌝ }
 {
-    if BYTES < s.len() {
-        return HeaderRead::Refused(Refusal::Length);
+    if BYTES < bytes.len() {
+        return ParsedHeader::Refused(Refusal::Length);
     }
-    let Field::Value(edition, facts_at) = field_at(s, 0, 4) else {
-        return HeaderRead::Refused(Refusal::Cut);
+    let Field::Value(edition, facts_at) = field_at(bytes, 0, 4) else {
+        return ParsedHeader::Refused(Refusal::Cut);
     };
     if edition != EDITION {
-        return HeaderRead::Refused(Refusal::Edition);
+        return ParsedHeader::Refused(Refusal::Edition);
     }
-    let Field::Value(n, actions_at) = field_at(s, facts_at, 4) else {
-        return HeaderRead::Refused(Refusal::Cut);
+    let Field::Value(n, actions_at) = field_at(bytes, facts_at, 4) else {
+        return ParsedHeader::Refused(Refusal::Cut);
     };
     if n < 1 {
-        return HeaderRead::Refused(Refusal::Facts);
+        return ParsedHeader::Refused(Refusal::Facts);
     }
     if FACTS < n {
-        return HeaderRead::Refused(Refusal::Facts);
+        return ParsedHeader::Refused(Refusal::Facts);
     }
-    let Field::Value(k, end) = field_at(s, actions_at, 5) else {
-        return HeaderRead::Refused(Refusal::Cut);
+    let Field::Value(k, end) = field_at(bytes, actions_at, 5) else {
+        return ParsedHeader::Refused(Refusal::Cut);
     };
     let space = States::all(n);
-    HeaderRead::Read(Header {
+    ParsedHeader::Read(Header {
+        edition,
         facts: n,
         actions: k,
         space,
@@ -81,39 +83,61 @@ pub fn header(s: &[u8]) -> HeaderRead
     })
 }
 
-// The first node of the action at a position.
-pub fn action_node(s: &[u8], at: usize) -> ActionNode
-    ensures { λ r. ⌜ actionNodeRead r ≡ ofSheet actionHead (now (s .entry)) at ⌝ }
+// The kind of the action at a position.
+pub(crate) fn kind_at(bytes: &[u8], at: usize) -> ActionKind
+    requires { ⌜ length (now bytes) ≤ mostBytes ⌝ }
+    ensures { λ r. ⌜ kindRead r ≡ kind (now (bytes .entry)) at ⌝ }
 {
-    if BYTES < s.len() {
-        return ActionNode::Refused(Refusal::Length);
-    }
-    let Field::Value(kind, next) = field_at(s, at, 1) else {
-        return ActionNode::Refused(Refusal::Cut);
+    let Field::Value(bit, next) = field_at(bytes, at, 1) else {
+        return ActionKind::Refused(Refusal::Cut);
     };
-    if kind == 0 {
-        return ActionNode::Change(next);
+    if bit == 0 {
+        return ActionKind::Change(next);
     }
-    let Field::Value(m, end) = field_at(s, next, 4) else {
-        return ActionNode::Refused(Refusal::Cut);
+    ActionKind::Probe(next)
+}
+
+pub fn action_kind(bytes: &[u8], at: usize) -> ActionKind
+    ensures { λ r. ⌜ kindRead r ≡ ofSheet kind (now (bytes .entry)) at ⌝ }
+{
+    if BYTES < bytes.len() {
+        return ActionKind::Refused(Refusal::Length);
+    }
+    kind_at(bytes, at)
+}
+
+// The reply count at a position.
+pub(crate) fn total_at(bytes: &[u8], at: usize) -> ReplyTotal
+    requires { ⌜ length (now bytes) ≤ mostBytes ⌝ }
+    ensures { λ r. ⌜ totalRead r ≡ replyTotal (now (bytes .entry)) at ⌝ }
+{
+    let Field::Value(m, next) = field_at(bytes, at, 4) else {
+        return ReplyTotal::Refused(Refusal::Cut);
     };
     if m < 1 {
-        return ActionNode::Refused(Refusal::Replies);
+        return ReplyTotal::Refused(Refusal::Replies);
     }
     if REPLIES < m {
-        return ActionNode::Refused(Refusal::Replies);
+        return ReplyTotal::Refused(Refusal::Replies);
     }
-    ActionNode::Probe(m, end)
+    ReplyTotal::Count(m, next)
+}
+
+pub fn reply_total(bytes: &[u8], at: usize) -> ReplyTotal
+    ensures { λ r. ⌜ totalRead r ≡ ofSheet replyTotal (now (bytes .entry)) at ⌝ }
+{
+    if BYTES < bytes.len() {
+        return ReplyTotal::Refused(Refusal::Length);
+    }
+    total_at(bytes, at)
 }
 
 // The first node of the epistemic formula at a position.
-pub fn epistemic_node(s: &[u8], at: usize) -> EpistemicNode
-    ensures { λ r. ⌜ epistemicNodeRead r ≡ ofSheet epistemicHead (now (s .entry)) at ⌝ }
+pub(crate) fn epistemic_at(bytes: &[u8], at: usize) -> EpistemicNode
+    requires { ⌜ length (now bytes) ≤ mostBytes ⌝ }
+    ensures { λ r. ⌜ epistemicNodeRead r ≡ epistemicNode (now (bytes .entry)) at ⌝ }
 {
-    if BYTES < s.len() {
-        return EpistemicNode::Refused(Refusal::Length);
-    }
-    let Field::Value(tag, next) = field_at(s, at, 2) else {
+    let Field::Value(tag, next) = field_at(bytes, at, 2) else {
         return EpistemicNode::Refused(Refusal::Cut);
     };
     match tag {
@@ -124,12 +148,21 @@ pub fn epistemic_node(s: &[u8], at: usize) -> EpistemicNode
     }
 }
 
-// The first node of the program at a position, where so many action nodes and branch nodes were read before it.
-pub(crate) fn first_node(s: &[u8], at: usize, acts: usize, branches: usize) -> ProgramNode
-    requires { ⌜ length (now s) ≤ 1024 ⌝ }
-    ensures { λ r. ⌜ programNodeRead r ≡ programHead acts branches (now (s .entry)) at ⌝ }
+pub fn epistemic_node(bytes: &[u8], at: usize) -> EpistemicNode
+    ensures { λ r. ⌜ epistemicNodeRead r ≡ ofSheet epistemicNode (now (bytes .entry)) at ⌝ }
 {
-    let Field::Value(tag, next) = field_at(s, at, 2) else {
+    if BYTES < bytes.len() {
+        return EpistemicNode::Refused(Refusal::Length);
+    }
+    epistemic_at(bytes, at)
+}
+
+// The first node of the program at a position, where so many action nodes and branch nodes were read before it.
+pub(crate) fn program_at(bytes: &[u8], at: usize, acts: usize, branches: usize) -> ProgramNode
+    requires { ⌜ length (now bytes) ≤ mostBytes ⌝ }
+    ensures { λ r. ⌜ programNodeRead r ≡ programNode acts branches (now (bytes .entry)) at ⌝ }
+{
+    let Field::Value(tag, next) = field_at(bytes, at, 2) else {
         return ProgramNode::Refused(Refusal::Cut);
     };
     if tag == 0 {
@@ -139,7 +172,7 @@ pub(crate) fn first_node(s: &[u8], at: usize, acts: usize, branches: usize) -> P
         if ACTION_NODES <= acts {
             return ProgramNode::Refused(Refusal::Nodes);
         }
-        let Field::Value(a, end) = field_at(s, next, 5) else {
+        let Field::Value(a, end) = field_at(bytes, next, 5) else {
             return ProgramNode::Refused(Refusal::Cut);
         };
         return ProgramNode::Act(a, end);
@@ -153,22 +186,12 @@ pub(crate) fn first_node(s: &[u8], at: usize, acts: usize, branches: usize) -> P
     ProgramNode::Refused(Refusal::Loop)
 }
 
-// The first node of the program at a position.
-pub fn program_node(s: &[u8], at: usize) -> ProgramNode
-    ensures { λ r. ⌜ programNodeRead r ≡ ofSheet (programHead 0 0) (now (s .entry)) at ⌝ }
+// The same with none read before it.
+pub fn program_node(bytes: &[u8], at: usize) -> ProgramNode
+    ensures { λ r. ⌜ programNodeRead r ≡ ofSheet (programNode 0 0) (now (bytes .entry)) at ⌝ }
 {
-    if BYTES < s.len() {
+    if BYTES < bytes.len() {
         return ProgramNode::Refused(Refusal::Length);
     }
-    first_node(s, at, 0, 0)
-}
-
-// The objective formula over n facts at a position: its set in a view, and the position after it.
-pub fn objective_states(s: &[u8], at: usize, n: usize, view: View) -> Evaluated
-    ensures { λ r. ⌜ setRead r ≡ mapped (table view) (ofSheet (objective n (inTheory view) deepest) (now (s .entry)) at) ⌝ }
-{
-    if BYTES < s.len() {
-        return Evaluated::Refused(Refusal::Length);
-    }
-    evaluate(s, at, DEPTH, n, view)
+    program_at(bytes, at, 0, 0)
 }

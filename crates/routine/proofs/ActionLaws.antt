@@ -12,57 +12,73 @@ use Rattle.states.specs.declared.States.{States}
 use Rattle.states.specs.Sets.{member, setOf}
 use Rattle.states.proofs.SetLaws.{member-setOf, set-cong}
 use Rattle.format.specs.Syntax.{Objective, bottom, Action, change, probe, replyCount}
-use Rattle.format.specs.Truth.{truth, holds, answers}
-use Rattle.format.specs.Format.{Read, got, ofSheet}
-use Rattle.reader.specs.Nodes.{ActionHead, actionHead, change-head, probe-head}
-use Rattle.reader.specs.Answers.{table}
-use Rattle.reader.specs.NodeAnswers.{actionNodeRead}
-use Rattle.reader.specs.Standing.{ObjectiveAt, RepliesAt, ActionAt, ActionsAt}
+use Rattle.format.specs.Truth.{truth, holds, replyHolds}
+use Rattle.format.specs.Format.{Read, got, mostBytes, Kind, changes, probes, kind, replyTotal, ofSheet}
+use Rattle.format.proofs.ReaderLaws.{sheet-short}
+use Rattle.format.specs.Standing.{ObjectiveAt, RepliesAt, ActionAt, ActionsAt}
+use Rattle.reader.specs.Answers.{kindRead, totalRead, statesIn}
 use Rattle.reader.specs.declared.refusal.Refusal.{Refusal}
 use Rattle.reader.specs.declared.formula.View.{View}
-use Rattle.reader.specs.declared.nodes.ActionNode.{ActionNode}
-use Rattle.reader.proofs.NodeLaws.{sheet-short}
+use Rattle.reader.specs.declared.nodes.ActionKind.{ActionKind}
+use Rattle.reader.specs.declared.nodes.ReplyTotal.{ReplyTotal}
 use Rattle.routine.specs.declared.actions.Laid.{Laid}
 use Rattle.routine.specs.Memory.{write, words}
 use Rattle.routine.specs.Tables.{rows, actionSets, headCells}
 use Rattle.routine.specs.Filling.{Replies, ActionRoom, ActionWritten}
 use Rattle.routine.proofs.WriteLaws.{written-on, words-four, spread-step, spread-append, spread-length}
 
--- What `action_node` answers where an action stands.
-module _ (bytes : List ℕ) (n : ℕ) (p : ℕ) (r : ActionNode) (short : length bytes ≤ 1024) (e : actionNodeRead r ≡ ofSheet actionHead bytes p) where
-  headed : {h : Read ActionHead} → actionHead bytes p ≡ h → actionNodeRead r ≡ h
-  headed k = e ∙ sym (sheet-short actionHead bytes p short k)
+-- What `action_kind` and `reply_total` answer where an action stands.
+module _ (bytes : List ℕ) (n : ℕ) (p : ℕ) (r : ActionKind) (short : length bytes ≤ mostBytes) (e : kindRead r ≡ ofSheet kind bytes p) where
+  told : {h : Read Kind} → kind bytes p ≡ h → kindRead r ≡ h
+  told k = e ∙ sym (sheet-short kind bytes p short k)
 
-  -- A change, behind whose bit its theory stands.
-  pub change-found : {end : ℕ} → r ≡ ActionNode.Change end → (x : Action) (q : ℕ) → ActionAt bytes n x p q
+  -- A change, behind whose kind its theory stands.
+  pub change-found : {end : ℕ} → r ≡ ActionKind.Change end → (x : Action) (q : ℕ) → ActionAt bytes n x p q
       → (f : Objective) × (x ≡ change f) × ObjectiveAt bytes n true f end q
-  unfolding actionNodeRead ActionAt
+  unfolding kindRead ActionAt
   change-found {end} k (change f) q h =
-      let g : got change-head end ≡ got change-head (h .0) = sym (ap actionNodeRead k) ∙ headed (h .1) in
+      let g : got changes end ≡ got changes (h .0) = sym (ap kindRead k) ∙ told (h .1) in
       let b : end ≡ h .0 = cc in
       (f, refl, rw b (h .2))
   change-found {end} k (probe fs) q h =
-      let g : got change-head end ≡ got (probe-head (length fs)) (h .0) = sym (ap actionNodeRead k) ∙ headed (h .1) in
+      let g : got changes end ≡ got probes (h .0) = sym (ap kindRead k) ∙ told (h .1) in
       let z : _≡_ {A = ℕ} 0 1 = cc in absurd (omega arith)
 
-  -- A probe, behind whose count its replies stand.
-  pub probe-found : {m end : ℕ} → r ≡ ActionNode.Probe m end → (x : Action) (q : ℕ) → ActionAt bytes n x p q
-      → (fs : List Objective) × (x ≡ probe fs) × (length fs ≡ m) × RepliesAt bytes n fs end q
-  unfolding actionNodeRead ActionAt
-  probe-found {m} {end} k (change f) q h =
-      let g : got (probe-head m) end ≡ got change-head (h .0) = sym (ap actionNodeRead k) ∙ headed (h .1) in
-      let z : _≡_ {A = ℕ} 0 1 = cc in absurd (omega arith)
-  probe-found {m} {end} k (probe fs) q h =
-      let g : got (probe-head m) end ≡ got (probe-head (length fs)) (h .0) = sym (ap actionNodeRead k) ∙ headed (h .1) in
-      let b : end ≡ h .0 = cc in
-      let l : length fs ≡ m = cc in
-      (fs, refl, l, rw b (h .2))
+  -- A probe, behind whose kind its reply count stands, and its replies behind that.
+  module _ {behind : ℕ} (k : r ≡ ActionKind.Probe behind) (x : Action) (q : ℕ) (h : ActionAt bytes n x p q) where
+    counted : (fs : List Objective) × (x ≡ probe fs) × (i : ℕ) × (replyTotal bytes behind ≡ got (length fs) i) × RepliesAt bytes n fs i q
+    counted = go x h
+      where
+        go : (x : Action) → ActionAt bytes n x p q → (fs : List Objective) × (x ≡ probe fs) × (i : ℕ) × (replyTotal bytes behind ≡ got (length fs) i) × RepliesAt bytes n fs i q
+        go (change f) h = unfold kindRead ActionAt in (
+            let g : got probes behind ≡ got changes (h .0) = sym (ap kindRead k) ∙ told (h .1) in
+            let z : _≡_ {A = ℕ} 0 1 = cc in absurd (omega arith))
+        go (probe fs) h = unfold kindRead ActionAt in (
+            let g : got probes behind ≡ got probes (h .0) = sym (ap kindRead k) ∙ told (h .1) in
+            let b : behind ≡ h .0 = cc in
+            (fs, refl, h .2, rw b (h .3), h .4))
 
-  -- No refusal.
-  pub never-faulty : {x : Refusal} {A : Type 0} → r ≡ ActionNode.Refused x → (a : Action) (q : ℕ) → ActionAt bytes n a p q → A
-  unfolding actionNodeRead ActionAt
-  never-faulty k (change f) q h = let g = sym (ap actionNodeRead k) ∙ headed (h .1) in let z : _≡_ {A = ℕ} 0 1 = cc in absurd (omega arith)
-  never-faulty k (probe fs) q h = let g = sym (ap actionNodeRead k) ∙ headed (h .1) in let z : _≡_ {A = ℕ} 0 1 = cc in absurd (omega arith)
+    module _ (c : ReplyTotal) (f : totalRead c ≡ ofSheet replyTotal bytes behind) where
+      total : totalRead c ≡ got (length (counted .0)) (counted .2)
+      total = f ∙ sym (sheet-short replyTotal bytes behind short (counted .3))
+
+      pub probe-found : {m end : ℕ} → c ≡ ReplyTotal.Count m end → (fs : List Objective) × (x ≡ probe fs) × (length fs ≡ m) × RepliesAt bytes n fs end q
+      unfolding totalRead
+      probe-found {m} {end} l =
+          let g : got m end ≡ got (length (counted .0)) (counted .2) = sym (ap totalRead l) ∙ total in
+          let b : end ≡ counted .2 = cc in
+          let many : length (counted .0) ≡ m = cc in
+          (counted .0, counted .1, many, rw b (counted .4))
+
+      -- No refusal.
+      pub never-uncounted : {y : Refusal} {A : Type 0} → c ≡ ReplyTotal.Refused y → A
+      unfolding totalRead
+      never-uncounted l = let g = sym (ap totalRead l) ∙ total in let z : _≡_ {A = ℕ} 0 1 = cc in absurd (omega arith)
+
+  pub never-faulty : {x : Refusal} {A : Type 0} → r ≡ ActionKind.Refused x → (a : Action) (q : ℕ) → ActionAt bytes n a p q → A
+  unfolding kindRead ActionAt
+  never-faulty k (change f) q h = let g = sym (ap kindRead k) ∙ told (h .1) in let z : _≡_ {A = ℕ} 0 1 = cc in absurd (omega arith)
+  never-faulty k (probe fs) q h = let g = sym (ap kindRead k) ∙ told (h .1) in let z : _≡_ {A = ℕ} 0 1 = cc in absurd (omega arith)
 
 -- The row of a state: the states of a space that may follow it.
 abbrev pub rowOf : States → Objective → ℕ → States
@@ -74,8 +90,8 @@ module _ (space : States) (f : Objective) (s : ℕ) where
   row-outside e = ap (λ (b : Bool). setOf (λ t. b && member space t && truth f s t)) (sym e)
 
   -- One inside has those that the theory allows.
-  pub row-inside : {set : States} → member space s ≡ true → set ≡ table (View.Next s) f → setOf (λ t. member space t && member set t) ≡ rowOf space f s
-  unfolding table
+  pub row-inside : {set : States} → member space s ≡ true → set ≡ statesIn (View.Next s) f → setOf (λ t. member space t && member set t) ≡ rowOf space f s
+  unfolding statesIn
   row-inside {set} e h =
       set-cong (λ t. member space t && member set t) (λ t. member space s && member space t && truth f s t)
       (λ t l. ap (λ (x : States). member space t && member x t) h ∙ ap (λ (b : Bool). member space t && b) (member-setOf (λ t. truth f s t) t l)
@@ -137,14 +153,14 @@ module _ (bytes : List ℕ) (n m k : ℕ) (before : List ℕ) (q : ℕ) (fs : Li
 
   -- The next one stands where they do.
   pub replies-here : {after : List ℕ} {p i : ℕ} → i < m → RepliesLeft bytes n m k before after p q i fs → (f : Objective) × (r : ℕ) × ObjectiveAt bytes n false f p r
-      × ((set : States) (end : ℕ) (then : List ℕ) → (set ≡ table View.States f) × (end ≡ r) → then ≡ write after (4 * (k + i)) (words set) → RepliesLeft bytes n m k before then end q (i + 1) fs)
-  unfolding RepliesAt table holds
+      × ((set : States) (end : ℕ) (then : List ℕ) → (set ≡ statesIn View.States f) × (end ≡ r) → then ≡ write after (4 * (k + i)) (words set) → RepliesLeft bytes n m k before then end q (i + 1) fs)
+  unfolding RepliesAt statesIn holds
   replies-here {after} {p} {i} l x = go (x .left) (x .number) (x .stand) (x .whole)
     where
       go : (left : List Objective) → length left ≡ m - i → RepliesAt bytes n left p q
           → write after (4 * (k + i)) (flatMap words (map tableOf left)) ≡ write before (4 * k) (flatMap words (map tableOf fs))
           → (f : Objective) × (r : ℕ) × ObjectiveAt bytes n false f p r
-          × ((set : States) (end : ℕ) (then : List ℕ) → (set ≡ table View.States f) × (end ≡ r) → then ≡ write after (4 * (k + i)) (words set) → RepliesLeft bytes n m k before then end q (i + 1) fs)
+          × ((set : States) (end : ℕ) (then : List ℕ) → (set ≡ statesIn View.States f) × (end ≡ r) → then ≡ write after (4 * (k + i)) (words set) → RepliesLeft bytes n m k before then end q (i + 1) fs)
       go [] d h w = absurd (omega arith)
       go (f ∷ left) d h w = (
         f,
@@ -172,20 +188,20 @@ module _ (bytes : List ℕ) (n m k : ℕ) (before : List ℕ) (q : ℕ) (fs : Li
       go (f ∷ left) d h w = absurd (omega arith)
 
 -- The tables of a probe's replies are those of its formulas.
-formulas-tables : (table : ℕ → States) (fs : List Objective) (a : ℕ) → ((r : ℕ) → table (a + r) ≡ tableOf (getD fs r bottom)) → map table (upFrom a (length fs)) ≡ map tableOf fs
+formulas-tables : (statesIn : ℕ → States) (fs : List Objective) (a : ℕ) → ((r : ℕ) → statesIn (a + r) ≡ tableOf (getD fs r bottom)) → map statesIn (upFrom a (length fs)) ≡ map tableOf fs
 unfolding upFrom
-formulas-tables table [] a h = refl
-formulas-tables table (f ∷ fs) a h =
+formulas-tables statesIn [] a h = refl
+formulas-tables statesIn (f ∷ fs) a h =
     let e : a + 0 ≡ a = omega arith in
-    ap₂ (λ (x : States) (xs : List States). x ∷ xs) (ap table (sym e) ∙ h 0)
-    (formulas-tables table fs (suc a) (λ r. let d : suc a + r ≡ a + suc r = omega arith in ap table d ∙ h (suc r)))
+    ap₂ (λ (x : States) (xs : List States). x ∷ xs) (ap statesIn (sym e) ∙ h 0)
+    (formulas-tables statesIn fs (suc a) (λ r. let d : suc a + r ≡ a + suc r = omega arith in ap statesIn d ∙ h (suc r)))
 
 module _ (space : States) where
   -- The sets of a probe are these tables.
   probe-sets : (fs : List Objective) → actionSets (member space) (probe fs) ≡ map tableOf fs
-  unfolding actionSets answers
+  unfolding actionSets replyHolds
   probe-sets fs =
-      formulas-tables (λ r. setOf (λ t. answers (probe fs) r t)) fs 0
+      formulas-tables (λ r. setOf (λ t. replyHolds (probe fs) r t)) fs 0
       (λ r. let e : 0 + r ≡ r = omega arith in ap (λ (j : ℕ). tableOf (getD fs j bottom)) e)
 
   probe-count : (fs : List Objective) → length (actionSets (member space) (probe fs)) ≡ length fs
@@ -201,16 +217,16 @@ module _ (space : States) where
       ap length (change-sets f) ∙ length-append (rows (member space) (change f)) (setOf (λ s. true) ∷ []) ∙ ap (λ (j : ℕ). j + 1) (rows-count space f)
 
   -- The parts of an action that has room stand behind its first node, and have room.
-  module _ (bytes : List ℕ) (n p k : ℕ) (r : ActionNode) (short : length bytes ≤ 1024) (e : actionNodeRead r ≡ ofSheet actionHead bytes p) (here : ActionRoom bytes n space p k) where
-    pub change-room : {end : ℕ} → r ≡ ActionNode.Change end → k + 257 ≤ 10240
+  module _ (bytes : List ℕ) (n p k : ℕ) (r : ActionKind) (short : length bytes ≤ 1024) (e : kindRead r ≡ ofSheet kind bytes p) (here : ActionRoom bytes n space p k) where
+    pub change-room : {end : ℕ} → r ≡ ActionKind.Change end → k + 257 ≤ 10240
     change-room g =
         let x = change-found bytes n p r short e g (here .action) (here .next) (here .stands) in
         let l : length (actionSets (member space) (here .action)) ≡ 257 = ap (λ (y : Action). length (actionSets (member space) y)) (x .1) ∙ change-count (x .0) in
         omega (arith, l, here .room)
 
-    pub probe-room : {m end : ℕ} → r ≡ ActionNode.Probe m end → Replies bytes n end m k
-    probe-room g =
-        let x = probe-found bytes n p r short e g (here .action) (here .next) (here .stands) in
+    pub probe-room : {behind m end : ℕ} → r ≡ ActionKind.Probe behind → (c : ReplyTotal) → totalRead c ≡ ofSheet replyTotal bytes behind → c ≡ ReplyTotal.Count m end → Replies bytes n end m k
+    probe-room g c f h =
+        let x = probe-found bytes n p r short e g (here .action) (here .next) (here .stands) c f h in
         let l : length (actionSets (member space) (here .action)) ≡ length (x .0) = ap (λ (y : Action). length (actionSets (member space) y)) (x .1) ∙ probe-count (x .0) in
         record { formulas = x .0; next = here .next; stand = x .3; all = x .2; room = omega (arith, l, x .2, here .room) }
 

@@ -8,12 +8,12 @@ use native.Mathlib.Omega.{arith}
 use lib.Dec.{eqb}
 use lib.ListN.{length}
 use Rattle.format.specs.Syntax.{Objective, Epistemic, known, not-known, all-of, any-of}
-use Rattle.format.specs.Format.{Read, got, fault, objective, EpistemicHead, known-head, not-known-head, all-of-head, any-of-head, epistemicHead, epistemicBehind, epistemic, ofSheet}
-use Rattle.reader.specs.Standing.{ObjectiveAt}
+use Rattle.format.specs.Format.{Read, got, fault, objective, EpistemicNode, known-node, not-known-node, all-of-node, any-of-node, epistemicNode, epistemicBehind, epistemic, ofSheet, mostBytes, deepest}
+use Rattle.format.proofs.ReaderLaws.{sheet-short, epistemic-split, known-split, not-known-split, all-of-split, any-of-split}
+use Rattle.format.proofs.StandingLaws.{epistemic-inside, standing-epistemic}
+use Rattle.format.specs.Standing.{ObjectiveAt}
 use Rattle.format.proofs.FormatLaws.{Finds, finds-give, finds-refuse, finds-behind}
 use Rattle.format.proofs.FormulaLaws.{objective-levels}
-use Rattle.reader.proofs.NodeLaws.{sheet-short}
-use Rattle.reader.proofs.StandingLaws.{epistemic-inside, standing-epistemic}
 use Rattle.routine.specs.declared.conditions.Extent.{Extent}
 use Rattle.routine.specs.Memory.{write, words, cells}
 use Rattle.routine.specs.Tables.{atoms, atomSets, tests}
@@ -23,7 +23,7 @@ use Rattle.routine.proofs.WriteLaws.{spread-one, spread-back, words-fou
 
 module _ (bytes : List ℕ) (n : ℕ) where
   -- A formula that is read has at most as many atoms as a sheet has bits.
-  atoms-few : (left p : ℕ) (f : Epistemic) (q : ℕ) → length bytes ≤ 1024 → left ≤ 16 → epistemic n left bytes p ≡ got f q → atoms f ≤ 8192
+  atoms-few : (left p : ℕ) (f : Epistemic) (q : ℕ) → length bytes ≤ mostBytes → left ≤ deepest → epistemic n left bytes p ≡ got f q → atoms f ≤ 8192
   atoms-few left p f q short l e =
       let s = standing-epistemic bytes n left l p .found f q e in
       omega (arith, atoms-bits bytes n f p q s, epistemic-inside bytes n f p q s)
@@ -47,55 +47,50 @@ module _ (bytes : List ℕ) (n left : ℕ) where
     pub some : 1 ≤ left
 
   -- The parts of a formula that ends at q, by what its first node is.
-  abbrev pub Parts : Read EpistemicHead → (f : Epistemic) (q : ℕ) → Type 0
-  Parts (got known-head p) f q = AtomAt known f p q
-  Parts (got not-known-head p) f q = AtomAt not-known f p q
-  Parts (got all-of-head p) f q = PairAt all-of f p q
-  Parts (got any-of-head p) f q = PairAt any-of f p q
+  abbrev pub Parts : Read EpistemicNode → (f : Epistemic) (q : ℕ) → Type 0
+  Parts (got known-node p) f q = AtomAt known f p q
+  Parts (got not-known-node p) f q = AtomAt not-known f p q
+  Parts (got all-of-node p) f q = PairAt all-of f p q
+  Parts (got any-of-node p) f q = PairAt any-of f p q
   Parts (fault r) f q = ⊥
 
 module _ (bytes : List ℕ) (n : ℕ) where
   -- A formula behind its first node.
-  module _ (d : ℕ) (l : suc d ≤ 16) (r : ℕ) where
-    atom : (make : Objective → Epistemic) (f : Objective) (q : ℕ) → objective n false d bytes r ≡ got f q → AtomAt bytes n (suc d) make (make f) r q
-    atom make f q h = record { inner = f; is = refl; stands = objective-levels n false d 16 (omega arith) bytes r f q h }
-
-    less : d ≡ suc d - 1
-    less = omega arith
-
-    pair : (make : Epistemic → Epistemic → Epistemic) (f : Epistemic) (i : ℕ) → epistemic n d bytes r ≡ got f i → (g : Epistemic) (q : ℕ) → epistemic n d bytes i ≡ got g q
-        → atoms (make f g) ≡ atoms f + atoms g → PairAt bytes n (suc d) make (make f g) r q
-    pair make f i h g q j many =
-        record {
-          first = f;
-          second = g;
-          middle = i;
-          is = refl;
-          many = many;
-          first-read = subst (λ (x : ℕ). epistemic n x bytes r ≡ got f i) less h;
-          second-read = subst (λ (x : ℕ). epistemic n x bytes i ≡ got g q) less j;
-          some = omega arith;
-        }
-
-    parts-behind : (h : EpistemicHead) → Finds bytes r (λ f q. Parts bytes n (suc d) (got h r) f q) (epistemicBehind (objective n false d) (epistemic n d) h)
-    unfolding epistemicBehind atoms
-    parts-behind known-head = finds-behind bytes r _ (objective n false d) _ (λ f q h. finds-give bytes q _ (known f) (atom known f q h))
-    parts-behind not-known-head = finds-behind bytes r _ (objective n false d) _ (λ f q h. finds-give bytes q _ (not-known f) (atom not-known f q h))
-    parts-behind all-of-head = finds-behind bytes r _ (epistemic n d) _ (λ f i h. finds-behind bytes i _ (epistemic n d) _ (λ g q j. finds-give bytes q _ (all-of f g) (pair all-of f i h g q j refl)))
-    parts-behind any-of-head = finds-behind bytes r _ (epistemic n d) _ (λ f i h. finds-behind bytes i _ (epistemic n d) _ (λ g q j. finds-give bytes q _ (any-of f g) (pair any-of f i h g q j refl)))
-
-  parts-found : (left : ℕ) → left ≤ 16 → (at : ℕ) → Finds bytes at (λ f q. Parts bytes n left (epistemicHead bytes at) f q) (epistemic n left)
-  unfolding epistemic
-  parts-found zero l at = finds-refuse bytes at _ 8
-  parts-found (suc d) l at =
-      finds-behind bytes at _ epistemicHead _ (λ h r e.
-      subst (λ (x : Read EpistemicHead). Finds bytes r (λ f q. Parts bytes n (suc d) x f q) (epistemicBehind (objective n false d) (epistemic n d) h)) (sym e) (parts-behind d l r h))
+  parts-behind : (left : ℕ) → left ≤ deepest → 1 ≤ left → (r : ℕ) (f : Epistemic) (q : ℕ) (h : EpistemicNode)
+      → epistemicBehind (objective n false (left - 1)) (epistemic n (left - 1)) h bytes r ≡ got f q → Parts bytes n left (got h r) f q
+  parts-behind left l some r f q known-node e = let w = known-split _ _ bytes r f q e in record { inner = w .0; is = sym (w .2); stands = objective-levels n false (left - 1) deepest (omega arith) bytes r (w .0) q (w .1) }
+  parts-behind left l some r f q not-known-node e = let w = not-known-split _ _ bytes r f q e in record { inner = w .0; is = sym (w .2); stands = objective-levels n false (left - 1) deepest (omega arith) bytes r (w .0) q (w .1) }
+  parts-behind left l some r f q all-of-node e =
+      let w = all-of-split _ _ bytes r f q e in
+      record {
+        first = w .first;
+        second = w .second;
+        middle = w .middle;
+        is = sym (w .is);
+        many = unfold atoms in (ap atoms (sym (w .is)));
+        first-read = w .first-read;
+        second-read = w .second-read;
+        some = some;
+      }
+  parts-behind left l some r f q any-of-node e =
+      let w = any-of-split _ _ bytes r f q e in
+      record {
+        first = w .first;
+        second = w .second;
+        middle = w .middle;
+        is = sym (w .is);
+        many = unfold atoms in (ap atoms (sym (w .is)));
+        first-read = w .first-read;
+        second-read = w .second-read;
+        some = some;
+      }
 
   -- The parts of a formula that is read, by what `epistemic_node` answers.
-  pub formula-parts : (left at : ℕ) {h : Read EpistemicHead} → length bytes ≤ 1024 → left ≤ 16 → h ≡ ofSheet epistemicHead bytes at
+  pub formula-parts : (left at : ℕ) {h : Read EpistemicNode} → length bytes ≤ mostBytes → left ≤ deepest → h ≡ ofSheet epistemicNode bytes at
       → (f : Epistemic) (q : ℕ) → epistemic n left bytes at ≡ got f q → Parts bytes n left h f q
   formula-parts left at short l e f q r =
-      subst (λ x. Parts bytes n left x f q) (sheet-short epistemicHead bytes at short refl ∙ sym e) (parts-found left l at .found f q r)
+      let w = epistemic-split n bytes at left f q r in
+      subst (λ x. Parts bytes n left x f q) (sheet-short epistemicNode bytes at short (w .3) ∙ sym e) (parts-behind left l (w .0) (w .2) f q (w .1) (w .4))
 
 module _ (bytes : List ℕ) (n left : ℕ) where
   -- The extent of a formula is that of its atom, or that of its parts together.
@@ -110,7 +105,7 @@ module _ (bytes : List ℕ) (n left : ℕ) where
 
   -- The parts of a formula of two, and how far they reach.
   module _ {make : Epistemic → Epistemic → Epistemic} {f : Epistemic} {p q : ℕ} (h : PairAt bytes n left make f p q) where
-    pub first-formula : left ≤ 16 → Formula bytes n (left - 1) p
+    pub first-formula : left ≤ deepest → Formula bytes n (left - 1) p
     first-formula l = record { formula = h .first; next = h .middle; read = h .first-read; levels = omega arith }
 
     module _ {x : Extent} (mx : Measures bytes n (left - 1) p x) where
@@ -120,7 +115,7 @@ module _ (bytes : List ℕ) (n left : ℕ) where
       second-read-at : epistemic n (left - 1) bytes (x .at) ≡ got (h .second) q
       second-read-at = ap (λ (v : Extent). epistemic n (left - 1) bytes (v .at)) first-extent ∙ h .second-read
 
-      pub second-formula : left ≤ 16 → Formula bytes n (left - 1) (x .at)
+      pub second-formula : left ≤ deepest → Formula bytes n (left - 1) (x .at)
       second-formula l = record { formula = h .second; next = q; read = second-read-at; levels = omega arith }
 
       module _ {y : Extent} (my : Measures bytes n (left - 1) (x .at) y) where
@@ -131,7 +126,7 @@ module _ (bytes : List ℕ) (n left : ℕ) where
         pair-extent = rw (first-extent, second-extent)
 
         -- Their atoms are counted without overflow.
-        pub pair-few : length bytes ≤ 1024 → left ≤ 16 → x .atoms + y .atoms ≤ 16384
+        pub pair-few : length bytes ≤ mostBytes → left ≤ deepest → x .atoms + y .atoms ≤ 16384
         pair-few short l =
             let a = ap (λ (v : Extent). v .atoms) first-extent in
             let b = ap (λ (v : Extent). v .atoms) second-extent in

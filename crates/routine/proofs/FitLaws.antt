@@ -12,7 +12,7 @@ use Rattle.states.specs.declared.States.{States}
 use Rattle.states.specs.Sets.{setOf}
 use Rattle.states.proofs.SetLaws.{Fitting, fitting-setOf}
 use Rattle.format.specs.Syntax.{Epistemic, known, not-known, all-of, any-of, Program, end, act, branch, Action, change, probe, replyCount, Sheet}
-use Rattle.format.specs.Truth.{isState, truth, holds, answers}
+use Rattle.format.specs.Truth.{isState, truth, holds, replyHolds}
 use Rattle.format.specs.Format.{Answer, accepted, refused, reading}
 use Rattle.format.proofs.FormatLaws.{NumbersBelow}
 use Rattle.format.proofs.SheetLaws.{FewReplies, accepted-shape}
@@ -150,7 +150,7 @@ action-sets-fit space a = each-append Fitting (rows space a) (replyTables a) (ro
     rows-fit (probe fs) = each-none Fitting
 
     replies-fit : Each Fitting (replyTables a)
-    replies-fit = each-map Fitting (λ r. setOf (λ t. answers a r t)) (below (replyCount a)) (λ r. fitting-setOf (λ t. answers a r t))
+    replies-fit = each-map Fitting (λ r. setOf (λ t. replyHolds a r t)) (below (replyCount a)) (λ r. fitting-setOf (λ t. replyHolds a r t))
 
 atom-sets-fit : (f : Epistemic) → Each Fitting (atomSets f)
 unfolding atomSets

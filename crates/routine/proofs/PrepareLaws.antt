@@ -1,4 +1,5 @@
 -- The parts of an accepted sheet, written one after the other, are its tables.
+use Rattle.format.proofs.StateLaws.{state-test}
 use Prim.Native.Nat.{ℕ, _+_, _*_, _^_, _<_, _≤_}
 use mathlib.Core.Path.{_≡_, refl, ap, ap₂, sym, subst, _∙_}
 use mathlib.Core.List.{List, [], _∷_, _++_, flatMap}
@@ -12,18 +13,17 @@ use Rattle.states.specs.Sets.{member, setOf}
 use Rattle.states.proofs.SetLaws.{member-setOf, set-cong}
 use Rattle.format.specs.Syntax.{Action, change, probe, replyCount, Sheet}
 use Rattle.format.specs.Truth.{isState, truth, holds, inSpace}
-use Rattle.format.specs.Format.{Answer, accepted, refused, Read, got, fault, epistemic, reading, mapped, Header, header, ofSheet}
-use Rattle.reader.specs.Answers.{numberOf, withoutValue, inTheory, table}
+use Rattle.format.specs.Format.{Answer, accepted, refused, Read, got, fault, epistemic, reading, mapped, Header, header, ofSheet, isEdition, mostBytes}
+use Rattle.format.proofs.ReaderLaws.{sheet-short}
+use Rattle.format.proofs.StandingLaws.{accepted-standing}
+use Rattle.format.specs.Standing.{Standing, ObjectiveAt, ActionsAt, ProgramAt}
+use Rattle.reader.specs.Answers.{numberOf, withoutValue, inTheory, statesIn, spaced, headerOf, headerRead}
 use Rattle.reader.proofs.AnswerLaws.{was-accepted, was-refused}
-use Rattle.reader.specs.NodeAnswers.{spaced, headerOf, headerRead}
-use Rattle.reader.specs.Standing.{Standing, ObjectiveAt, ActionsAt, ProgramAt}
 use Rattle.reader.specs.declared.refusal.Refusal.{Refusal}
 use Rattle.reader.specs.declared.layout.Header.{Header as HeaderValue}
-use Rattle.reader.specs.declared.layout.HeaderRead.{HeaderRead}
+use Rattle.reader.specs.declared.layout.ParsedHeader.{ParsedHeader}
 use Rattle.reader.specs.declared.formula.View.{View}
-use Rattle.reader.proofs.NodeLaws.{sheet-short}
 use Rattle.format.proofs.SheetLaws.{accepted-shape}
-use Rattle.reader.proofs.StandingLaws.{accepted-standing}
 use Rattle.routine.specs.declared.memory.Node.{Node}
 use Rattle.routine.specs.declared.actions.Laid.{Laid}
 use Rattle.routine.specs.declared.conditions.Extent.{Extent}
@@ -76,14 +76,14 @@ module _ (bytes : List ℕ) (sheet : Sheet) (read : reading bytes ≡ accepted s
 
   -- The header is read.
   abbrev sheetHeader : Header
-  sheetHeader = record { facts = sheet .facts; actions = length (sheet .actions) }
+  sheetHeader = record { edition = stands .edition; facts = sheet .facts; actions = length (sheet .actions) }
 
-  header-counts : mapped spaced (ofSheet header bytes 0) ≡ got (sheetHeader, setOf (inSpace (sheet .facts))) (stands .actions-at)
+  header-counts : mapped spaced (ofSheet (header isEdition) bytes 0) ≡ got (sheetHeader, setOf (inSpace (sheet .facts))) (stands .actions-at)
   unfolding mapped spaced
-  header-counts = ap (mapped spaced) (sym (sheet-short header bytes 0 (stands .short) (stands .header-read)))
+  header-counts = ap (mapped spaced) (sym (sheet-short (header isEdition) bytes 0 (stands .short) (stands .header-read)))
 
   -- What the code found of it.
-  pub header-refused : {A : Type 0} (r : HeaderRead) (x : Refusal) → headerRead r ≡ mapped spaced (ofSheet header bytes 0) → r ≡ HeaderRead.Refused x → A
+  pub header-refused : {A : Type 0} (r : ParsedHeader) (x : Refusal) → headerRead r ≡ mapped spaced (ofSheet (header isEdition) bytes 0) → r ≡ ParsedHeader.Refused x → A
   unfolding headerRead
   header-refused r x e told =
       let f : _≡_ {A = Read (Header × States)} (fault (numberOf x)) (got (sheetHeader, setOf (inSpace (sheet .facts))) (stands .actions-at)) = sym (ap headerRead told) ∙ e ∙ header-counts in
@@ -95,7 +95,7 @@ module _ (bytes : List ℕ) (sheet : Sheet) (read : reading bytes ≡ accepted s
     pub space-is : h .space ≡ setOf (inSpace (sheet .facts))
     pub at-is : h .at ≡ stands .actions-at
 
-  pub header-found : (r : HeaderRead) (h : HeaderValue) → headerRead r ≡ mapped spaced (ofSheet header bytes 0) → r ≡ HeaderRead.Read h → HeaderIs h
+  pub header-found : (r : ParsedHeader) (h : HeaderValue) → headerRead r ≡ mapped spaced (ofSheet (header isEdition) bytes 0) → r ≡ ParsedHeader.Read h → HeaderIs h
   unfolding headerRead headerOf
   header-found r h e told =
       let f : _≡_ {A = Read (Header × States)} (got (headerOf h, h .space) (h .at)) (got (sheetHeader, setOf (inSpace (sheet .facts))) (stands .actions-at)) = sym (ap headerRead told) ∙ e ∙ header-counts in
@@ -129,8 +129,7 @@ module _ (bytes : List ℕ) (sheet : Sheet) (read : reading bytes ≡ accepted s
     count-is = found .count-is
 
     space-same : (s : ℕ) → s < 256 → member space s ≡ isState sheet s
-    unfolding isState
-    space-same s l = ap (λ (u : States). member u s) (found .space-is) ∙ member-setOf (inSpace (sheet .facts)) s l
+    space-same s l = ap (λ (u : States). member u s) (found .space-is) ∙ member-setOf (inSpace (sheet .facts)) s l ∙ sym (state-test sheet s)
 
     sets-are : flatMap (actionSets (member space)) (sheet .actions) ≡ sheetActionSets sheet
     unfolding sheetActionSets
@@ -181,9 +180,9 @@ module _ (bytes : List ℕ) (sheet : Sheet) (read : reading bytes ≡ accepted s
           (subst (λ (p : ℕ). ObjectiveAt bytes (sheet .facts) false (sheet .start) p (stands .goal-at)) (sym laid-at) (stands .start-stands))
 
       -- Its set, and where the goal begins.
-      module _ (start : States) (goal-at : ℕ) (start-is : start ≡ table View.States (sheet .start)) (goal-is : goal-at ≡ stands .goal-at) where
+      module _ (start : States) (goal-at : ℕ) (start-is : start ≡ statesIn View.States (sheet .start)) (goal-is : goal-at ≡ stands .goal-at) where
         pub start-filled : (r : States) → r ≡ setOf (λ s. member space s && member start s) → r ≡ sheetStart sheet
-        unfolding sheetStart table holds
+        unfolding sheetStart statesIn holds
         start-filled r e =
             e ∙ set-cong (λ s. member space s && member start s) (λ s. isState sheet s && holds (sheet .start) s) (λ s l.
             ap₂ (λ (u v : Bool). u && v) (space-same s l) (ap (λ (u : States). member u s) start-is ∙ member-setOf (λ t. truth (sheet .start) t t) s l))

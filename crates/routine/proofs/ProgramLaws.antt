@@ -7,33 +7,19 @@ use native.Mathlib.Omega.{arith}
 use lib.Dec.{ltb, eqb}
 use lib.ListN.{length, length-append}
 use Rattle.format.specs.Syntax.{Epistemic, Program, end, act, branch}
-use Rattle.format.specs.Format.{Read, got, fault, field, ProgramHead, end-head, act-head, branch-head, programHead, ofSheet}
-use Rattle.reader.specs.Standing.{BranchAt, EpistemicAt, EpistemicRead, ProgramAt}
-use Rattle.format.proofs.FormatLaws.{Gives, gives-give, gives-refuse, gives-if, gives-check, gives-behind, gives-any, field-below}
-use Rattle.reader.proofs.NodeLaws.{sheet-short}
-use Rattle.reader.proofs.StandingLaws.{epistemic-inside, program-head-inside, program-inside}
+use Rattle.format.specs.Format.{Read, got, fault, field, ProgramNode, end-node, act-node, branch-node, programNode, ofSheet, mostBytes}
+use Rattle.format.proofs.ReaderLaws.{sheet-short}
+use Rattle.format.proofs.StandingLaws.{epistemic-inside, program-node-inside, program-inside}
+use Rattle.format.specs.Standing.{BranchAt, EpistemicAt, EpistemicRead, ProgramAt}
+use Rattle.format.proofs.FormatLaws.{Gives, gives-give, gives-refuse, gives-if, gives-check, gives-behind, gives-any, field-below, node-numbered}
 use Rattle.routine.specs.declared.memory.Node.{Node}
 use Rattle.routine.specs.declared.conditions.Extent.{Extent}
 use Rattle.routine.specs.declared.program.Filled.{Filled}
 use Rattle.routine.specs.Memory.{write, words, cells, Small}
 use Rattle.routine.specs.Tables.{atoms, atomSets, tests, size, programAtoms, programSets, programNodes}
-use Rattle.routine.specs.Filling.{Formula, Measures, FormulaRoom, FormulaFills, ProgramRoom, ProgramFills, ends, NodesWritten}
+use Rattle.routine.specs.Filling.{Formula, Measures, FormulaRoom, FormulaFills, ProgramRoom, ProgramFills, filledTo, NodesWritten}
 use Rattle.routine.proofs.WriteLaws.{spread-one, spread-on, spread-back, words-four, cells-four}
 use Rattle.routine.proofs.SizeLaws.{tests-length, atom-sets-length, nodes-length, program-sets-length}
-
--- The action number of a first node has 5 bits.
-abbrev Numbered : ProgramHead → Type 0
-Numbered end-head = Unit {0}
-Numbered (act-head a) = a < 32
-Numbered branch-head = Unit {0}
-
-head-numbered : Gives Numbered (programHead 0 0)
-unfolding programHead
-head-numbered =
-    gives-any Numbered (field 2) _ (λ tag.
-    gives-if Numbered (eqb tag 0) _ _ (gives-give Numbered end-head tt)
-    (gives-if Numbered (eqb tag 1) _ _ (gives-check Numbered (ltb 0 64) 11 _ (λ t. gives-behind (λ a. a < 32) Numbered (field 5) _ (field-below 5) (λ a l. gives-give Numbered (act-head a) l)))
-    (gives-if Numbered (eqb tag 2) _ _ (gives-check Numbered (ltb 0 63) 11 _ (λ t. gives-give Numbered branch-head tt)) (gives-refuse Numbered 10))))
 
 module _ (bytes : List ℕ) (n at : ℕ) where
   -- A program of an action node, behind which the rest stands from p to q.
@@ -59,17 +45,17 @@ module _ (bytes : List ℕ) (n at : ℕ) where
     pub before : at < p
 
   -- The parts of a program that ends at q, by what its first node is.
-  abbrev pub Parts : Read ProgramHead → (x : Program) (q : ℕ) → Type 0
-  Parts (got end-head p) x q = (x ≡ end) × (p ≡ q)
-  Parts (got (act-head a) p) x q = ActAt a x p q
-  Parts (got branch-head p) x q = ForkAt x p q
+  abbrev pub Parts : Read ProgramNode → (x : Program) (q : ℕ) → Type 0
+  Parts (got end-node p) x q = (x ≡ end) × (p ≡ q)
+  Parts (got (act-node a) p) x q = ActAt a x p q
+  Parts (got branch-node p) x q = ForkAt x p q
   Parts (fault r) x q = ⊥
 
-  parts-found : (x : Program) (q : ℕ) → ProgramAt bytes n x at q → Parts (programHead 0 0 bytes at) x q
+  parts-found : (x : Program) (q : ℕ) → ProgramAt bytes n x at q → Parts (programNode 0 0 bytes at) x q
   unfolding ProgramAt size programAtoms
   parts-found end q s = rw s (refl, refl)
   parts-found (act a rest) q s =
-      let h = program-head-inside bytes at .found (act-head a) (s .0) (s .1) in
+      let h = program-node-inside bytes at .found (act-node a) (s .0) (s .1) in
       rw (s .1) (record {
         rest = rest;
         is = refl;
@@ -77,14 +63,14 @@ module _ (bytes : List ℕ) (n at : ℕ) where
         sets-many = refl;
         stands = s .2;
         before = h .0;
-        small = head-numbered bytes at (act-head a) (s .0) (s .1);
+        small = node-numbered 0 0 bytes at (act-node a) (s .0) (s .1);
       })
   parts-found (branch f y z rest) q s =
-      rw (s .1) (record { condition = f; yes = y; no = z; rest = rest; is = refl; many = refl; sets-many = refl; parts = s .2; before = program-head-inside bytes at .found branch-head (s .0) (s .1) .0 })
+      rw (s .1) (record { condition = f; yes = y; no = z; rest = rest; is = refl; many = refl; sets-many = refl; parts = s .2; before = program-node-inside bytes at .found branch-node (s .0) (s .1) .0 })
 
   -- The parts of a program that stands, by what `program_node` answers.
-  pub program-parts : {h : Read ProgramHead} → length bytes ≤ 1024 → h ≡ ofSheet (programHead 0 0) bytes at → (x : Program) (q : ℕ) → ProgramAt bytes n x at q → Parts h x q
-  program-parts short e x q s = subst (λ r. Parts r x q) (sheet-short (programHead 0 0) bytes at short refl ∙ sym e) (parts-found x q s)
+  pub program-parts : {h : Read ProgramNode} → length bytes ≤ mostBytes → h ≡ ofSheet (programNode 0 0) bytes at → (x : Program) (q : ℕ) → ProgramAt bytes n x at q → Parts h x q
+  program-parts short e x q s = subst (λ r. Parts r x q) (sheet-short (programNode 0 0) bytes at short refl ∙ sym e) (parts-found x q s)
 
 -- The end has none.
 pub laid-end : (base k : ℕ) {x : Program} (p q : ℕ) (nodes sets : List ℕ) → (x ≡ end) × (p ≡ q) → NodesWritten base k x q nodes nodes sets sets (record { at = p; node = base; set = k })
@@ -147,7 +133,7 @@ module _ {A : Type 0} (spread : A → List ℕ) (four : (a : A) → length (spre
 module _ (bytes : List ℕ) (n at base k : ℕ) where
   -- A program that stands at a position ends there, among the nodes and among the sets.
   abbrev EndsAt : (p i j : ℕ) → Filled → Type 0
-  EndsAt p i j r = (x : Program) (q : ℕ) → ProgramAt bytes n x p q → r ≡ ends i j x q
+  EndsAt p i j r = (x : Program) (q : ℕ) → ProgramAt bytes n x p q → r ≡ filledTo i j x q
 
   module _ {x : Program} {p q : ℕ} (h : ForkAt bytes n at x p q) where
     pub condition-formula : Formula bytes n 16 p
@@ -171,7 +157,7 @@ module _ (bytes : List ℕ) (n at base k : ℕ) where
       then-later = omega (arith, onward, ap (λ (v : Extent). v .at) condition-is)
 
       module _ {y : Filled} (ey : EndsAt (c .at) (base + c .atoms) (k + c .atoms) y) where
-        then-is : y ≡ ends (base + atoms (h .condition)) (k + atoms (h .condition)) (h .yes) (h .parts .else-at)
+        then-is : y ≡ filledTo (base + atoms (h .condition)) (k + atoms (h .condition)) (h .yes) (h .parts .else-at)
         then-is = subst (λ (v : Extent). EndsAt (v .at) (base + v .atoms) (k + v .atoms) y) condition-is ey (h .yes) (h .parts .else-at) (h .parts .then-stands)
 
         pub else-later : 8 * length bytes - y .at < 8 * length bytes - at
@@ -182,7 +168,7 @@ module _ (bytes : List ℕ) (n at base k : ℕ) where
         skip-is = omega (arith, ap (λ (v : Extent). v .atoms) condition-is, ap (λ (v : Filled). v .node) then-is)
 
         module _ {z : Filled} (ez : EndsAt (y .at) (y .node + 1) (y .set) z) where
-          else-is : z ≡ ends (base + atoms (h .condition) + size (h .yes) + 1) (k + atoms (h .condition) + programAtoms (h .yes)) (h .no) (h .parts .rest-at)
+          else-is : z ≡ filledTo (base + atoms (h .condition) + size (h .yes) + 1) (k + atoms (h .condition) + programAtoms (h .yes)) (h .no) (h .parts .rest-at)
           else-is = subst (λ (v : Filled). EndsAt (v .at) (v .node + 1) (v .set) z) then-is ez (h .no) (h .parts .rest-at) (h .parts .else-stands)
 
           pub last-later : 8 * length bytes - z .at < 8 * length bytes - at

@@ -8,10 +8,10 @@ use lib.ListN.{length, length-append}
 use Rattle.lists.proofs.ListLaws.{made-length}
 use Rattle.format.specs.Syntax.{Action, change, probe, replyCount, Sheet}
 use Rattle.states.specs.Sets.{setOf}
-use Rattle.format.specs.Truth.{isState, truth, answers}
+use Rattle.format.specs.Truth.{isState, truth, replyHolds}
 use Rattle.format.specs.Format.{accepted, reading}
 use Rattle.format.proofs.SheetLaws.{FewReplies, accepted-shape}
-use Rattle.reader.proofs.StandingLaws.{accepted-standing}
+use Rattle.format.proofs.StandingLaws.{accepted-standing}
 use Rattle.routine.proofs.SizeLaws.{tests-length, atom-sets-length, nodes-length, program-sets-length, size-nodes, atoms-bits, program-bits}
 use Rattle.routine.specs.declared.memory.Node.{Node}
 use Rattle.routine.specs.Tables.{rows, replyTables, actionSets, headCells, atoms, atomSets, tests, size, programAtoms, programSets, programNodes, sheetActionSets, sheetSets, sheetNodes}
@@ -19,7 +19,7 @@ use Rattle.routine.specs.Tables.{rows, replyTables, actionSets, headCell
 -- A table for each reply.
 replies-length : (a : Action) → length (replyTables a) ≡ replyCount a
 unfolding replyTables
-replies-length a = made-length (λ r. setOf (λ t. answers a r t)) 0 (replyCount a)
+replies-length a = made-length (λ r. setOf (λ t. replyHolds a r t)) 0 (replyCount a)
 
 -- An action has at most 264 sets: 256 rows and 8 replies.
 module _ (space : ℕ → Bool) where

@@ -6,9 +6,9 @@ use mathlib.Core.Bool.{false}
 use native.Mathlib.Omega.{arith}
 use lib.ListN.{length, length-append}
 use Rattle.format.specs.Syntax.{Epistemic, known, not-known, all-of, any-of, Program, end, act, branch, actionNodes, branchNodes}
-use Rattle.format.specs.Format.{known-head, not-known-head, all-of-head, any-of-head, end-head, act-head, branch-head}
-use Rattle.reader.specs.Standing.{EpistemicAt, ProgramAt}
-use Rattle.reader.proofs.StandingLaws.{epistemic-head-inside, program-head-inside}
+use Rattle.format.specs.Format.{known-node, not-known-node, all-of-node, any-of-node, end-node, act-node, branch-node}
+use Rattle.format.proofs.StandingLaws.{epistemic-node-inside, program-node-inside}
+use Rattle.format.specs.Standing.{EpistemicAt, ProgramAt}
 use Rattle.format.proofs.FormulaLaws.{objective-onward}
 use Rattle.routine.specs.declared.memory.Node.{Node}
 use Rattle.routine.specs.Tables.{atoms, atomSets, tests, size, programAtoms, programSets, programNodes}
@@ -87,29 +87,29 @@ module _ (bytes : List ℕ) (n : ℕ) where
   pub atoms-bits : (f : Epistemic) (p q : ℕ) → EpistemicAt bytes n f p q → p + 5 * atoms f ≤ q
   unfolding EpistemicAt atoms
   atoms-bits (known f) p q s =
-      let i = epistemic-head-inside bytes p .found known-head (s .0) (s .1) in
+      let i = epistemic-node-inside bytes p .found known-node (s .0) (s .1) in
       let h = objective-onward n false 16 bytes (s .0) .found f q (s .2) in
       omega (arith, i .0, h .0)
   atoms-bits (not-known f) p q s =
-      let i = epistemic-head-inside bytes p .found not-known-head (s .0) (s .1) in
+      let i = epistemic-node-inside bytes p .found not-known-node (s .0) (s .1) in
       let h = objective-onward n false 16 bytes (s .0) .found f q (s .2) in
       omega (arith, i .0, h .0)
   atoms-bits (all-of f g) p q s =
-      let i = epistemic-head-inside bytes p .found all-of-head (s .0) (s .1) in
+      let i = epistemic-node-inside bytes p .found all-of-node (s .0) (s .1) in
       omega (arith, i .0, atoms-bits f (s .0) (s .2) (s .3), atoms-bits g (s .2) q (s .4))
   atoms-bits (any-of f g) p q s =
-      let i = epistemic-head-inside bytes p .found any-of-head (s .0) (s .1) in
+      let i = epistemic-node-inside bytes p .found any-of-node (s .0) (s .1) in
       omega (arith, i .0, atoms-bits f (s .0) (s .2) (s .3), atoms-bits g (s .2) q (s .4))
 
   pub program-bits : (program : Program) (p q : ℕ) → ProgramAt bytes n program p q → p + 5 * programAtoms program ≤ q
   unfolding ProgramAt programAtoms
-  program-bits end p q s = omega (arith, program-head-inside bytes p .found end-head q s .0)
-  program-bits (act a rest) p q s = omega (arith, program-head-inside bytes p .found (act-head a) (s .0) (s .1) .0, program-bits rest (s .0) q (s .2))
+  program-bits end p q s = omega (arith, program-node-inside bytes p .found end-node q s .0)
+  program-bits (act a rest) p q s = omega (arith, program-node-inside bytes p .found (act-node a) (s .0) (s .1) .0, program-bits rest (s .0) q (s .2))
   program-bits (branch f y z rest) p q s =
       let parts = s .2 in
       omega (
         arith,
-        program-head-inside bytes p .found branch-head (s .0) (s .1) .0,
+        program-node-inside bytes p .found branch-node (s .0) (s .1) .0,
         atoms-bits f (s .0) (parts .then-at) (parts .condition-stands),
         program-bits y (parts .then-at) (parts .else-at) (parts .then-stands),
         program-bits z (parts .else-at) (parts .rest-at) (parts .else-stands),

@@ -11,7 +11,7 @@ use Rattle.lists.proofs.ListLaws.{append-past, made-get}
 use Rattle.states.specs.declared.States.{States}
 use Rattle.states.specs.Sets.{setOf}
 use Rattle.format.specs.Syntax.{Action, probe, replyCount, Sheet, actionOf}
-use Rattle.format.specs.Truth.{isState, answers}
+use Rattle.format.specs.Truth.{isState, replyHolds}
 use Rattle.format.specs.Format.{Answer, accepted, refused, reading}
 use Rattle.reader.specs.Answers.{numberOf}
 use Rattle.reader.specs.declared.refusal.Refusal.{Refusal}
@@ -202,12 +202,12 @@ module _ (sheet : Sheet) (heads nodes sets : List ℕ) (tabled : Tabled sheet he
       set-of j (omega (arith, length-append (rows space (actionOf sheet a)) (replyTables (actionOf sheet a))))
       ∙ List·getD-append (rows space (actionOf sheet a)) (replyTables (actionOf sheet a)) noStates j m
 
-  pub reply-is : (r : ℕ) → r < replyCount (actionOf sheet a) → setAt sets (first + length (rows space (actionOf sheet a)) + r) ≡ setOf (λ t. answers (actionOf sheet a) r t)
+  pub reply-is : (r : ℕ) → r < replyCount (actionOf sheet a) → setAt sets (first + length (rows space (actionOf sheet a)) + r) ≡ setOf (λ t. replyHolds (actionOf sheet a) r t)
   unfolding actionSets replyTables
   reply-is r m =
       let x = actionOf sheet a in
       let e : first + length (rows space x) + r ≡ first + (length (rows space x) + r) = omega arith in
       let z : 0 + r ≡ r = omega arith in
       ap (setAt sets) e ∙ set-of (length (rows space x) + r) (omega (arith, action-length space x))
-      ∙ append-past (rows space x) (replyTables x) noStates r ∙ made-get (λ q. setOf (λ t. answers x q t)) noStates 0 (replyCount x) r m
-      ∙ ap (λ (v : ℕ). setOf (λ t. answers x v t)) z
+      ∙ append-past (rows space x) (replyTables x) noStates r ∙ made-get (λ q. setOf (λ t. replyHolds x q t)) noStates 0 (replyCount x) r m
+      ∙ ap (λ (v : ℕ). setOf (λ t. replyHolds x v t)) z

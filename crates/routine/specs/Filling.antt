@@ -1,4 +1,5 @@
--- What the parts of `prepare` do: inner contracts, over parts of a sheet that stand in its bytes (reader/specs/Standing.antt).
+-- The method: what the parts of `prepare` do, for the contracts of inner functions. An auditor of the promises needs none of it. Parts of a sheet stand in its bytes as
+-- format/specs/Standing.antt says.
 use Prim.Native.Nat.{ℕ, _+_, _*_, _≤_}
 use mathlib.Core.List.{List, [], _∷_, flatMap, map}
 use mathlib.Core.Bool.{true, false, _&&_}
@@ -9,7 +10,7 @@ use Rattle.states.specs.Sets.{member, setOf}
 use Rattle.format.specs.Syntax.{Objective, Epistemic, Program, Action, change, Sheet}
 use Rattle.format.specs.Truth.{truth, holds}
 use Rattle.format.specs.Format.{got, accepted, deepest, epistemic, reading}
-use Rattle.reader.specs.Standing.{ObjectiveAt, RepliesAt, ActionAt, ActionsAt, ProgramAt}
+use Rattle.format.specs.Standing.{ObjectiveAt, RepliesAt, ActionAt, ActionsAt, ProgramAt}
 use Rattle.routine.specs.declared.memory.Node.{Node}
 use Rattle.routine.specs.declared.actions.Laid.{Laid}
 use Rattle.routine.specs.declared.conditions.Extent.{Extent}
@@ -32,13 +33,13 @@ TestsWritten base k met unmet f q nodes nodes′ sets sets′ r =
     × (sets′ ≡ write sets (4 * k) (flatMap words (atomSets f)))
 
 -- Where a program ends: in the sheet, among the nodes and among the sets.
-abbrev pub ends : (base k : ℕ) (x : Program) (q : ℕ) → Filled
-ends base k x q = record { at = q; node = base + size x; set = k + programAtoms x }
+abbrev pub filledTo : (base k : ℕ) (x : Program) (q : ℕ) → Filled
+filledTo base k x q = record { at = q; node = base + size x; set = k + programAtoms x }
 
 -- The nodes and the sets of a program are written from node `base` and from set k on, and r is where it ends.
 abbrev pub NodesWritten : (base k : ℕ) (x : Program) (q : ℕ) (nodes nodes′ sets sets′ : List ℕ) → Filled → Type 0
 NodesWritten base k x q nodes nodes′ sets sets′ r =
-    (r ≡ ends base k x q) × (nodes′ ≡ write nodes (4 * base) (flatMap cells (programNodes x k))) × (sets′ ≡ write sets (4 * k) (flatMap words (programSets x)))
+    (r ≡ filledTo base k x q) × (nodes′ ≡ write nodes (4 * base) (flatMap cells (programNodes x k))) × (sets′ ≡ write sets (4 * k) (flatMap words (programSets x)))
 
 module _ (bytes : List ℕ) (n : ℕ) where
   -- A position is where the theory at another ends.

@@ -9,17 +9,17 @@ use Rattle.lists.specs.Lists.{upFrom, below}
 use Rattle.states.specs.declared.States.{States}
 use Rattle.states.specs.Sets.{setOf}
 use Rattle.format.specs.Syntax.{top, fact, negation, Epistemic, known, not-known, all-of, any-of, Program, end, act, branch, Action, change, probe, replyCount, Sheet}
-use Rattle.format.specs.Truth.{isState, holds, truth, answers}
+use Rattle.format.specs.Truth.{isState, holds, truth, replyHolds}
 use Rattle.format.specs.Format.{Answer, accepted, refused}
 use Rattle.reader.specs.Answers.{numberOf}
 use Rattle.routine.specs.declared.memory.Node.{Node}
 use Rattle.routine.specs.declared.sheet.Prepared.{Prepared}
 use Rattle.routine.specs.Memory.{write, words, cells}
 
--- The table of each reply: the states after the effect in which it is true. ("After a change .., after a probe the same state, with a reply true in it"; 2013: the states where the reply holds.)
+-- The table of each reply: the states after the effect in which it is true. ("after a probe, the same state, with a reply true in it"; 2013: the states where the reply holds.)
 unfoldable pub replyTables : Action → List States
-unfolding setOf upFrom answers replyCount
-replyTables a = map (λ r. setOf (λ t. answers a r t)) (below (replyCount a))
+unfolding setOf upFrom replyHolds replyCount
+replyTables a = map (λ r. setOf (λ t. replyHolds a r t)) (below (replyCount a))
 
 -- The other tables of actions, over a space of states.
 module _ (space : ℕ → Bool) where
@@ -56,7 +56,7 @@ atomSets (not-known f) = setOf (λ s. holds f s) ∷ []
 atomSets (all-of f g) = atomSets f ++ atomSets g
 atomSets (any-of f g) = atomSets f ++ atomSets g
 
--- The tests of an epistemic formula whose sets stand from set k on ("and, or, not read as usual"): where it holds, `met` nodes behind its last are skipped, else `unmet`.
+-- The tests of an epistemic formula whose sets stand from set k on ("And, or, not read as usual."): where it holds, `met` nodes behind its last are skipped, else `unmet`.
 unfoldable pub tests : Epistemic → (k met unmet : ℕ) → List Node
 unfolding atoms
 tests (known f) k met unmet = Node.Test k met unmet ∷ []
@@ -83,8 +83,8 @@ programSets end = []
 programSets (act a rest) = programSets rest
 programSets (branch f y z rest) = atomSets f ++ (programSets y ++ (programSets z ++ programSets rest))
 
--- The nodes of a program whose sets stand from set k on. At its end it goes on with the node behind its last. "A branch goes to its then-program if its condition
--- holds .., else to its else-program, and afterwards to its rest": where the condition holds the then-program follows, behind whose end a jump leads over the
+-- The nodes of a program whose sets stand from set k on. At its end it goes on with the node behind its last. "a branch goes to its then-program if its condition holds after the
+-- history so far, else to its else-program, and afterwards to its rest": where the condition holds the then-program follows, behind whose end a jump leads over the
 -- else-program to the rest; else the then-program and this jump are skipped, and behind the else-program stands the rest. So every jump goes forward.
 unfoldable pub programNodes : Program → (k : ℕ) → List Node
 unfolding tests atoms size programAtoms
@@ -117,7 +117,7 @@ unfoldable pub sheetHeads : Sheet → List ℕ
 unfolding headCells isState
 sheetHeads sheet = headCells (isState sheet) 0 (sheet .actions)
 
--- The start set: the states in which the start formula holds, where "a run is a start state, ..". (2013: the initial knowledge state.)
+-- The start set: the states in which the start formula holds, where every run begins. (2013: the initial knowledge state.)
 unfoldable pub sheetStart : Sheet → States
 unfolding setOf isState holds
 sheetStart sheet = setOf (λ s. isState sheet s && holds (sheet .start) s)

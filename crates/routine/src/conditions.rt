@@ -11,6 +11,7 @@ use reader::epistemic_node;
 use reader::objective_states;
 ghost use Prim.Native.Nat.{_≤_, _<_};
 ghost use lib.ListN.{length};
+ghost use Rattle.format.specs.Format.{mostBytes};
 ghost use Rattle.routine.specs.Memory.{nodeMost, setMost};
 ghost use Rattle.routine.specs.Filling.{AtomMeasures, AtomFills, Formula, Measures, FormulaRoom, FormulaFills};
 
@@ -21,36 +22,36 @@ pub(crate) struct Extent {
 }
 
 // The extent of an atom whose objective formula stands at a position.
-fn atom_extent(s: &[u8], at: usize, n: usize) -> Extent
-    requires { ⌜ length (now s) ≤ 1024 ⌝ }
-    ensures { λ r. ⌜ AtomMeasures (now (s .entry)) n at r ⌝ }
+fn atom_extent(bytes: &[u8], at: usize, n: usize) -> Extent
+    requires { ⌜ length (now bytes) ≤ mostBytes ⌝ }
+    ensures { λ r. ⌜ AtomMeasures (now (bytes .entry)) n at r ⌝ }
 {
-    match objective_states(s, at, n, View::States) {
+    match objective_states(bytes, at, n, View::States) {
         Evaluated::Refused(r) => Extent { atoms: 0, at: at },
         Evaluated::Holds(set, end) => Extent { atoms: 1, at: end },
     }
 }
 
 // The extent of the epistemic formula at a position, of at most `left` levels.
-pub(crate) fn measure(s: &[u8], at: usize, n: usize, left: usize) -> Extent
-    requires { ⌜ (length (now s) ≤ 1024) × Formula (now s) n left at ⌝ }
-    ensures { λ r. ⌜ Measures (now (s .entry)) n left at r ⌝ }
+pub(crate) fn measure(bytes: &[u8], at: usize, n: usize, left: usize) -> Extent
+    requires { ⌜ (length (now bytes) ≤ mostBytes) × Formula (now bytes) n left at ⌝ }
+    ensures { λ r. ⌜ Measures (now (bytes .entry)) n left at r ⌝ }
 {
-    match epistemic_node(s, at) {
+    match epistemic_node(bytes, at) {
         EpistemicNode::Refused(r) => Extent { atoms: 0, at: at },
-        EpistemicNode::Known(p) => atom_extent(s, p, n),
-        EpistemicNode::NotKnown(p) => atom_extent(s, p, n),
+        EpistemicNode::Known(p) => atom_extent(bytes, p, n),
+        EpistemicNode::NotKnown(p) => atom_extent(bytes, p, n),
         EpistemicNode::AllOf(p) => {
-            let first = measure(s, p, n, left - 1);
-            let second = measure(s, first.at, n, left - 1);
+            let first = measure(bytes, p, n, left - 1);
+            let second = measure(bytes, first.at, n, left - 1);
             Extent {
                 atoms: first.atoms + second.atoms,
                 at: second.at,
             }
         }
         EpistemicNode::AnyOf(p) => {
-            let first = measure(s, p, n, left - 1);
-            let second = measure(s, first.at, n, left - 1);
+            let first = measure(bytes, p, n, left - 1);
+            let second = measure(bytes, first.at, n, left - 1);
             Extent {
                 atoms: first.atoms + second.atoms,
                 at: second.at,
@@ -61,7 +62,7 @@ pub(crate) fn measure(s: &[u8], at: usize, n: usize, left: usize) -> Extent
 
 // Writes the test of an atom whose objective formula stands at a position, as node `base`, and its set as set k.
 fn fill_atom(
-    s: &[u8],
+    bytes: &[u8],
     at: usize,
     n: usize,
     base: usize,
@@ -71,10 +72,10 @@ fn fill_atom(
     nodes: &mut [u16; NODE_CELLS],
     sets: &mut [u64; SET_WORDS],
 ) -> Extent
-    requires { ⌜ (length (now s) ≤ 1024) × (base < nodeMost) × (k < setMost) × (met < 65536) × (unmet < 65536) ⌝ }
-    ensures { λ r. ⌜ AtomFills (now (s .entry)) n at base k met unmet (now (nodes .entry)) (now (nodes .exit)) (now (sets .entry)) (now (sets .exit)) r ⌝ }
+    requires { ⌜ (length (now bytes) ≤ mostBytes) × (base < nodeMost) × (k < setMost) × (met < 65536) × (unmet < 65536) ⌝ }
+    ensures { λ r. ⌜ AtomFills (now (bytes .entry)) n at base k met unmet (now (nodes .entry)) (now (nodes .exit)) (now (sets .entry)) (now (sets .exit)) r ⌝ }
 {
-    match objective_states(s, at, n, View::States) {
+    match objective_states(bytes, at, n, View::States) {
         Evaluated::Refused(r) => Extent { atoms: 0, at: at },
         Evaluated::Holds(set, end) => {
             put_node(nodes, base, Node::Test(k, met, unmet));
@@ -88,7 +89,7 @@ fn fill_atom(
 // its atoms from set k on. Where it holds, `met` nodes behind its last test are skipped, else `unmet`. The second part is
 // written first, since the tests of the first skip it.
 pub(crate) fn fill_tests(
-    s: &[u8],
+    bytes: &[u8],
     at: usize,
     n: usize,
     left: usize,
@@ -99,17 +100,17 @@ pub(crate) fn fill_tests(
     nodes: &mut [u16; NODE_CELLS],
     sets: &mut [u64; SET_WORDS],
 ) -> Extent
-    requires { ⌜ (length (now s) ≤ 1024) × FormulaRoom (now s) n left at base k met unmet ⌝ }
-    ensures { λ r. ⌜ FormulaFills (now (s .entry)) n left at base k met unmet (now (nodes .entry)) (now (nodes .exit)) (now (sets .entry)) (now (sets .exit)) r ⌝ }
+    requires { ⌜ (length (now bytes) ≤ mostBytes) × FormulaRoom (now bytes) n left at base k met unmet ⌝ }
+    ensures { λ r. ⌜ FormulaFills (now (bytes .entry)) n left at base k met unmet (now (nodes .entry)) (now (nodes .exit)) (now (sets .entry)) (now (sets .exit)) r ⌝ }
 {
-    match epistemic_node(s, at) {
+    match epistemic_node(bytes, at) {
         EpistemicNode::Refused(r) => Extent { atoms: 0, at: at },
-        EpistemicNode::Known(p) => fill_atom(s, p, n, base, k, met, unmet, nodes, sets),
-        EpistemicNode::NotKnown(p) => fill_atom(s, p, n, base, k, unmet, met, nodes, sets),
+        EpistemicNode::Known(p) => fill_atom(bytes, p, n, base, k, met, unmet, nodes, sets),
+        EpistemicNode::NotKnown(p) => fill_atom(bytes, p, n, base, k, unmet, met, nodes, sets),
         EpistemicNode::AllOf(p) => {
-            let first = measure(s, p, n, left - 1);
+            let first = measure(bytes, p, n, left - 1);
             let second = fill_tests(
-                s,
+                bytes,
                 first.at,
                 n,
                 left - 1,
@@ -121,7 +122,7 @@ pub(crate) fn fill_tests(
                 sets,
             );
             fill_tests(
-                s,
+                bytes,
                 p,
                 n,
                 left - 1,
@@ -138,9 +139,9 @@ pub(crate) fn fill_tests(
             }
         }
         EpistemicNode::AnyOf(p) => {
-            let first = measure(s, p, n, left - 1);
+            let first = measure(bytes, p, n, left - 1);
             let second = fill_tests(
-                s,
+                bytes,
                 first.at,
                 n,
                 left - 1,
@@ -152,7 +153,7 @@ pub(crate) fn fill_tests(
                 sets,
             );
             fill_tests(
-                s,
+                bytes,
                 p,
                 n,
                 left - 1,

@@ -11,7 +11,7 @@ use crate::program::fill_program;
 use reader::Answer;
 use reader::DEPTH;
 use reader::Evaluated;
-use reader::HeaderRead;
+use reader::ParsedHeader;
 use reader::Refusal;
 use reader::View;
 use reader::header;
@@ -31,27 +31,28 @@ pub enum Prepared {
 
 // Writes the tables of an accepted sheet. Its parts stand in it, so that no refusal is ever met.
 fn fill(
-    s: &[u8],
+    bytes: &[u8],
     heads: &mut [u16; HEAD_CELLS],
     nodes: &mut [u16; NODE_CELLS],
     sets: &mut [u64; SET_WORDS],
 ) -> Prepared
-    requires { ⌜ Acceptable (now s) ⌝ }
-    ensures { λ r. ⌜ (preparedOf r ≡ startOf (reading (now (s .entry)))) × (now (heads .exit) ≡ preparedBy sheetHeads (reading (now (s .entry))) (now (heads .entry))) × (now (nodes .exit) ≡ preparedBy nodeCells (reading (now (s .entry))) (now (nodes .entry))) × (now (sets .exit) ≡ preparedBy setWords (reading (now (s .entry))) (now (sets .entry))) ⌝ }
+    requires { ⌜ Acceptable (now bytes) ⌝ }
+    ensures { λ r. ⌜ (preparedOf r ≡ startOf (reading (now (bytes .entry)))) × (now (heads .exit) ≡ preparedBy sheetHeads (reading (now (bytes .entry))) (now (heads .entry))) × (now (nodes .exit) ≡ preparedBy nodeCells (reading (now (bytes .entry))) (now (nodes .entry))) × (now (sets .exit) ≡ preparedBy setWords (reading (now (bytes .entry))) (now (sets .entry))) ⌝ }
 {
-    let HeaderRead::Read(h) = header(s) else {
+    let ParsedHeader::Read(h) = header(bytes) else {
         return Prepared::Refused(Refusal::Cut);
     };
     let n = h.facts;
     let space = h.space;
-    let actions = fill_actions(s, h.at, n, space, h.actions, heads, sets);
-    let Evaluated::Holds(start, goal_at) = objective_states(s, actions.at, n, View::States) else {
+    let actions = fill_actions(bytes, h.at, n, space, h.actions, heads, sets);
+    let Evaluated::Holds(start, goal_at) = objective_states(bytes, actions.at, n, View::States)
+    else {
         return Prepared::Refused(Refusal::Cut);
     };
-    let goal = measure(s, goal_at, n, DEPTH);
-    let program = fill_program(s, goal.at, n, 0, actions.set, nodes, sets);
+    let goal = measure(bytes, goal_at, n, DEPTH);
+    let program = fill_program(bytes, goal.at, n, 0, actions.set, nodes, sets);
     fill_tests(
-        s,
+        bytes,
         goal_at,
         n,
         DEPTH,
@@ -62,24 +63,24 @@ fn fill(
         nodes,
         sets,
     );
-    let ends = program.node + goal.atoms;
-    put_node(nodes, ends, Node::End(true));
-    put_node(nodes, ends + 1, Node::End(false));
+    let last = program.node + goal.atoms;
+    put_node(nodes, last, Node::End(true));
+    put_node(nodes, last + 1, Node::End(false));
     Prepared::Ready(space.intersect(start))
 }
 
 // A sheet as tables in lent memory: where the sets of its actions stand, the nodes of its program and of its goal, and
 // its sets of states. A refused sheet leaves the memory as it was.
 pub fn prepare(
-    s: &[u8],
+    bytes: &[u8],
     heads: &mut [u16; HEAD_CELLS],
     nodes: &mut [u16; NODE_CELLS],
     sets: &mut [u64; SET_WORDS],
 ) -> Prepared
-    ensures { λ r. ⌜ (preparedOf r ≡ startOf (reading (now (s .entry)))) × (now (heads .exit) ≡ preparedBy sheetHeads (reading (now (s .entry))) (now (heads .entry))) × (now (nodes .exit) ≡ preparedBy nodeCells (reading (now (s .entry))) (now (nodes .entry))) × (now (sets .exit) ≡ preparedBy setWords (reading (now (s .entry))) (now (sets .entry))) ⌝ }
+    ensures { λ r. ⌜ (preparedOf r ≡ startOf (reading (now (bytes .entry)))) × (now (heads .exit) ≡ preparedBy sheetHeads (reading (now (bytes .entry))) (now (heads .entry))) × (now (nodes .exit) ≡ preparedBy nodeCells (reading (now (bytes .entry))) (now (nodes .entry))) × (now (sets .exit) ≡ preparedBy setWords (reading (now (bytes .entry))) (now (sets .entry))) ⌝ }
 {
-    match read(s) {
+    match read(bytes) {
         Answer::Refused(r) => Prepared::Refused(r),
-        Answer::Accepted => fill(s, heads, nodes, sets),
+        Answer::Accepted => fill(bytes, heads, nodes, sets),
     }
 }

@@ -13,7 +13,7 @@ rejectionNumber Rejection.AtEnd = 32
 rejectionNumber Rejection.NoSuchReply = 33
 rejectionNumber Rejection.NotPossible = 34
 
--- "'Next' tells the action to do, or that the routine is at its end and whether the goal holds", and "gives only 31".
+-- "Next" tells "the action to do, or that the routine is at its end and whether the goal holds", and "gives only 31".
 unfoldable pub toldOf : Told → Answer Meant
 toldOf (Told.Act a) = accepted (to-do a)
 toldOf (Told.End holds) = accepted (at-end holds)

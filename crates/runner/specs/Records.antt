@@ -7,7 +7,7 @@ use lib.Dec.{leb, eqb}
 use lib.ListN.{length, replicate, take, drop}
 use Rattle.lists.specs.Lists.{if_then_else_, every}
 use Rattle.format.specs.Syntax.{Sheet}
-use Rattle.format.specs.Format.{Answer, accepted, refused, reading}
+use Rattle.format.specs.Format.{Answer, accepted, refused, mostBytes, mostActs, reading}
 use Rattle.semantics.specs.Replies.{Told, to-do, at-end, told, reported, areOfRun}
 use Rattle.semantics.specs.Cases.{sheet1, sheet2}
 use Rattle.runner.specs.declared.kept.Record.{Record}
@@ -23,11 +23,11 @@ areZero xs = every (λ b. eqb b 0) xs
 -- "The record holds a 1,024-byte sheet, its length, 64 reply bytes and their count": that of a sheet's bytes and some replies.
 unfoldable pub recordOf : (bytes rs : List ℕ) → Record
 unfolding padded
-recordOf bytes rs = record { sheet = padded 1024 bytes; len = length bytes; replies = padded 64 rs; count = length rs }
+recordOf bytes rs = record { sheet = padded mostBytes bytes; len = length bytes; replies = padded mostActs rs; count = length rs }
 
 -- "Loading gives a record with no replies." "A refused loading returns a record of zeros."
 unfoldable pub zeros : Record
-zeros = record { sheet = replicate 1024 0; len = 0; replies = replicate 64 0; count = 0 }
+zeros = record { sheet = replicate mostBytes 0; len = 0; replies = replicate mostActs 0; count = 0 }
 
 unfoldable pub loadedFor : (bytes : List ℕ) → Answer Sheet → Record
 unfolding recordOf zeros
@@ -48,9 +48,9 @@ heldReplies r = take (r .count) (r .replies)
 -- Else 31: only zeros past the lengths, at most 64 replies, and a length of at most 1,024, above which "the record's sheet would be refused".
 unfoldable pub isPadded : Record → Bool
 unfolding areZero
-isPadded r = (leb (r .len) 1024 && leb (r .count) 64) && (areZero (drop (r .len) (r .sheet)) && areZero (drop (r .count) (r .replies)))
+isPadded r = (leb (r .len) mostBytes && leb (r .count) mostActs) && (areZero (drop (r .len) (r .sheet)) && areZero (drop (r .count) (r .replies)))
 
--- 31 too if "the record's sheet would be refused .. or the replies aren't those of a run following the routine"; else the sheet.
+-- 31 too if "the record's sheet would be refused", "or the replies aren't those of a run following the routine"; else the sheet.
 unfoldable pub resumed : Answer Sheet → (rs : List ℕ) → Answer Sheet
 unfolding if_then_else_ areOfRun
 resumed (accepted sheet) rs = if areOfRun sheet rs then accepted sheet else refused 31
@@ -80,10 +80,10 @@ unfoldable pub reportOn : Record → (reply : ℕ) → Answer (List ℕ)
 unfolding reportOf heldBy heldReplies
 reportOn r reply = reportOf (heldBy r) (heldReplies r) reply
 
--- The record with other replies; after a refusal "the record comes back unchanged".
+-- The record with other replies; after a refusal "The record comes back unchanged".
 unfoldable pub recordWith : Record → Answer (List ℕ) → Record
 unfolding padded
-recordWith r (accepted rs) = record { sheet = r .sheet; len = r .len; replies = padded 64 rs; count = length rs }
+recordWith r (accepted rs) = record { sheet = r .sheet; len = r .len; replies = padded mostActs rs; count = length rs }
 recordWith r (refused k) = r
 
 unfoldable pub recordAfter : Record → (reply : ℕ) → Record
@@ -144,22 +144,22 @@ same-answer : recordAfter (recordOf twice (0 ∷ [])) 0 ≡ recordOf twice (0 �
 unfolding recordAfter recordOf
 same-answer = refl
 
--- "In that order": a third reply then is 33, though no state allows it.
+-- "Tested in that order": a third reply then is 33, though no state allows it.
 had-before-possible : reportOn (recordOf twice (0 ∷ [])) 2 ≡ refused 33
 unfolding reportOn recordOf
 had-before-possible = refl
 
--- After a refusal "the record comes back unchanged".
+-- After a refusal "The record comes back unchanged".
 kept-on-refusal : recordAfter (recordOf twice (0 ∷ [])) 1 ≡ recordOf twice (0 ∷ [])
 unfolding recordAfter recordOf
 kept-on-refusal = refl
 
 -- 31: a byte that isn't 0 past a length; one reply more than the routine takes; replies of no run.
-byte-past-length : nextOn (record { sheet = padded 1024 (sheet1 ++ (1 ∷ [])); len = 9; replies = padded 64 []; count = 0 }) ≡ refused 31
+byte-past-length : nextOn (record { sheet = padded mostBytes (sheet1 ++ (1 ∷ [])); len = 9; replies = padded mostActs []; count = 0 }) ≡ refused 31
 unfolding nextOn padded
 byte-past-length = refl
 
-reply-past-count : nextOn (record { sheet = padded 1024 sheet1; len = 9; replies = padded 64 (1 ∷ []); count = 0 }) ≡ refused 31
+reply-past-count : nextOn (record { sheet = padded mostBytes sheet1; len = 9; replies = padded mostActs (1 ∷ []); count = 0 }) ≡ refused 31
 unfolding nextOn padded
 reply-past-count = refl
 

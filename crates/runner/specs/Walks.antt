@@ -1,4 +1,4 @@
--- The method: where replies lead by a routine's tables, whatever numbers are in the memory. It defines nothing of document 01; proofs/WalkLaws.antt shows its agreement.
+-- The method: where replies lead by a routine's tables, whatever numbers are in the memory. An auditor of the promises needs none of it; proofs/WalkLaws.antt shows its agreement.
 use Prim.Native.Nat.{ℕ, _+_}
 use mathlib.Core.List.{List, [], _∷_}
 use lib.Dec.{ltb}

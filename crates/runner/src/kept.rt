@@ -8,7 +8,7 @@ use reader::Answer;
 ghost use mathlib.Core.Path.{_≡_};
 ghost use Prim.Native.Nat.{_≤_};
 ghost use lib.ListN.{length};
-ghost use Rattle.format.specs.Format.{reading};
+ghost use Rattle.format.specs.Format.{mostBytes, reading};
 ghost use Rattle.reader.specs.Answers.{withoutValue, answerOf};
 ghost use Rattle.runner.specs.Records.{areZero, padded, zeros, loaded, isPadded, nextOn, reportOn, recordAfter};
 ghost use Rattle.runner.specs.Answers.{toldOf, reportedOf};
@@ -38,12 +38,12 @@ pub struct AfterReport {
 }
 
 // Whether every byte is 0.
-fn all_zero(s: &[u8]) -> bool
-    ensures { λ r. ⌜ r ≡ areZero (now (s .entry)) ⌝ }
+fn all_zero(bytes: &[u8]) -> bool
+    ensures { λ r. ⌜ r ≡ areZero (now (bytes .entry)) ⌝ }
 {
     let mut i = 0;
-    while i < s.len() {
-        if s[i] != 0 {
+    while i < bytes.len() {
+        if bytes[i] != 0 {
             return false;
         }
         i = i + 1;
@@ -52,14 +52,14 @@ fn all_zero(s: &[u8]) -> bool
 }
 
 // The bytes of a sheet and zeros behind them.
-fn copied(s: &[u8]) -> [u8; Record::SHEET]
-    requires { ⌜ length (now s) ≤ 1024 ⌝ }
-    ensures { λ r. ⌜ r ≡ padded 1024 (now (s .entry)) ⌝ }
+fn copied(bytes: &[u8]) -> [u8; Record::SHEET]
+    requires { ⌜ length (now bytes) ≤ mostBytes ⌝ }
+    ensures { λ r. ⌜ r ≡ padded mostBytes (now (bytes .entry)) ⌝ }
 {
     let mut to = [0u8; Record::SHEET];
     let mut i = 0;
-    while i < s.len() {
-        to[i] = s[i];
+    while i < bytes.len() {
+        to[i] = bytes[i];
         i = i + 1;
     }
     to
@@ -67,9 +67,9 @@ fn copied(s: &[u8]) -> [u8; Record::SHEET]
 
 impl Record {
     // The most bytes of a sheet, and the most replies.
-    pub const SHEET: usize = 1024;
+    pub const SHEET: usize = reader::BYTES;
 
-    pub const REPLIES: usize = 64;
+    pub const REPLIES: usize = reader::ACTION_NODES;
 
     // The record of zeros.
     fn zero() -> Record
@@ -84,22 +84,22 @@ impl Record {
     }
 
     // A record of a sheet with no replies; of a refused sheet the record of zeros.
-    pub fn load(s: &[u8]) -> AfterLoad
-        ensures { λ r. ⌜ (answerOf (r .answer) ≡ withoutValue (reading (now (s .entry)))) × (r .kept ≡ loaded (now (s .entry))) ⌝ }
+    pub fn load(bytes: &[u8]) -> AfterLoad
+        ensures { λ r. ⌜ (answerOf (r .answer) ≡ withoutValue (reading (now (bytes .entry)))) × (r .kept ≡ loaded (now (bytes .entry))) ⌝ }
     {
-        let answer = reader::read(s);
+        let answer = reader::read(bytes);
         match answer {
             Answer::Refused(r) => AfterLoad {
                 answer: Answer::Refused(r),
                 kept: Record::zero(),
             },
             Answer::Accepted => {
-                let sheet = copied(s);
+                let sheet = copied(bytes);
                 AfterLoad {
                     answer: Answer::Accepted,
                     kept: Record {
                         sheet: sheet,
-                        len: s.len(),
+                        len: bytes.len(),
                         replies: [0u8; Record::REPLIES],
                         count: 0,
                     },

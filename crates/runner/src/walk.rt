@@ -85,13 +85,13 @@ fn judge(
 }
 
 // What "Next" tells of a sheet and replies.
-pub(crate) fn tell(s: &[u8], replies: &[u8]) -> Told
-    ensures { λ r. ⌜ toldOf r ≡ nextOf (resumed (reading (now (s .entry))) (now (replies .entry))) (now (replies .entry)) ⌝ }
+pub(crate) fn tell(bytes: &[u8], replies: &[u8]) -> Told
+    ensures { λ r. ⌜ toldOf r ≡ nextOf (resumed (reading (now (bytes .entry))) (now (replies .entry))) (now (replies .entry)) ⌝ }
 {
     let mut heads = [0u16; HEAD_CELLS];
     let mut nodes = [0u16; NODE_CELLS];
     let mut sets = [0u64; SET_WORDS];
-    match prepare(s, &mut heads, &mut nodes, &mut sets) {
+    match prepare(bytes, &mut heads, &mut nodes, &mut sets) {
         Prepared::Refused(r) => Told::BadRecord,
         Prepared::Ready(start) => {
             match follow(&heads, &nodes, &sets, start, replies) {
@@ -104,13 +104,13 @@ pub(crate) fn tell(s: &[u8], replies: &[u8]) -> Told
 }
 
 // Whether a sheet and replies take one reply more.
-pub(crate) fn add(s: &[u8], replies: &[u8], reply: u8) -> Reported
-    ensures { λ r. ⌜ reportedOf r ≡ withoutValue (reportOf (resumed (reading (now (s .entry))) (now (replies .entry))) (now (replies .entry)) reply) ⌝ }
+pub(crate) fn add(bytes: &[u8], replies: &[u8], reply: u8) -> Reported
+    ensures { λ r. ⌜ reportedOf r ≡ withoutValue (reportOf (resumed (reading (now (bytes .entry))) (now (replies .entry))) (now (replies .entry)) reply) ⌝ }
 {
     let mut heads = [0u16; HEAD_CELLS];
     let mut nodes = [0u16; NODE_CELLS];
     let mut sets = [0u64; SET_WORDS];
-    match prepare(s, &mut heads, &mut nodes, &mut sets) {
+    match prepare(bytes, &mut heads, &mut nodes, &mut sets) {
         Prepared::Refused(r) => Reported::Refused(Rejection::BadRecord),
         Prepared::Ready(start) => {
             match follow(&heads, &nodes, &sets, start, replies) {

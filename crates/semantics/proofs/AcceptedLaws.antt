@@ -9,11 +9,11 @@ use lib.ListN.{length, length-map}
 use Rattle.lists.specs.Lists.{exists, below}
 use Rattle.lists.proofs.ListLaws.{not-both, and-both, every-mem, exists-mem, mem-exists}
 use Rattle.format.specs.Syntax.{Program, end, act, branch, Action, replyCount, Sheet, actionOf}
-use Rattle.format.specs.Truth.{isState, states, holds, moves, answers, allowed}
-use Rattle.format.specs.Format.{accepted, reading, hasStart, leadsOn, hasReply}
+use Rattle.format.specs.Truth.{isState, states, holds, allowed}
+use Rattle.format.specs.Format.{accepted, reading, hasStart}
 use Rattle.format.proofs.StateLaws.{listed-state, state-listed, state-byte}
 use Rattle.format.proofs.FormatLaws.{NumbersBelow}
-use Rattle.format.proofs.SheetLaws.{accepted-shape, accepted-passed, action-mem, few-replies}
+use Rattle.format.proofs.SheetLaws.{accepted-shape, accepted-passed, action-steps, action-mem, few-replies}
 use Rattle.semantics.specs.Runs.{Entry, entry, History, extended, replies, step, Steps, IsRun, lastFrom, lastState, runs, holdsAfter, occurs}
 use Rattle.semantics.specs.Routine.{Policy, done, perform, policy, routine, Follows, isFull, Following, Full}
 use Rattle.semantics.specs.Verdict.{traceFrom, trace}
@@ -47,15 +47,6 @@ unfolding leftAfter ActionsBelow
 left-below k p [] b = b
 left-below k done (r ∷ rs) b = tt
 left-below k (perform a after) (r ∷ rs) b = left-below k (after r) rs (b .1 r)
-
--- An action that leads on and has a reply in each state has a step from each state.
-action-steps : (sheet : Sheet) (a : Action) → leadsOn (states sheet) a ≡ true → hasReply (states sheet) a ≡ true → (s : ℕ) → isState sheet s ≡ true
-    → (r : ℕ) × (t : ℕ) × (isState sheet t ≡ true) × (allowed a s r t ≡ true)
-unfolding leadsOn hasReply allowed
-action-steps sheet a l h s i =
-    let x = exists-mem (λ t. moves a s t) (states sheet) (every-mem (λ s. exists (λ t. moves a s t) (states sheet)) (states sheet) l (state-listed sheet s i)) in
-    let y = exists-mem (λ r. answers a r (x .0)) (below (replyCount a)) (every-mem (λ s. exists (λ r. answers a r s) (below (replyCount a))) (states sheet) h (x .1)) in
-    (y .0, x .0, listed-state sheet (x .1), and-both (moves a s (x .0)) (answers a (y .0) (x .0)) (x .2) (y .2))
 
 module _ (sheet : Sheet) where
   -- The last state of a run is a state.

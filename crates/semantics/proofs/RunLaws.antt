@@ -9,8 +9,8 @@ use Rattle.lists.specs.Lists.{Sorted, Before}
 use Rattle.lists.proofs.ListLaws.{two-cases, not-both, both-true, and-both, one-true, or-left, or-right, keep-mem, mem-keep, every-mem, mem-every, flat-mem, mem-flat, mem-nonempty, nonempty-mem}
 use Rattle.lists.proofs.OrderLaws.{sorted-keep, sorted-flat, sorted-map}
 use Rattle.format.specs.Syntax.{Objective, Epistemic, known, not-known, all-of, any-of, replyCount, Sheet, actionOf}
-use Rattle.format.specs.Truth.{isState, states, holds, moves, answers, allowed}
-use Rattle.format.proofs.StateLaws.{listed-state, state-listed, states-sorted, answer-exists}
+use Rattle.format.specs.Truth.{isState, states, holds, moves, replyHolds, allowed}
+use Rattle.format.proofs.StateLaws.{listed-state, state-listed, states-sorted, reply-exists}
 use Rattle.semantics.specs.Runs.{History, step, Steps, IsRun, lastState, Known, Holds, startStates, nextStates, runsFrom, runs, knownAfter, holdsAfter, occurs, isSteps, isRun}
 use Rattle.semantics.specs.Verdict.{leastRun}
 
@@ -88,7 +88,7 @@ module _ (sheet : Sheet) where
   steps-replies s (e ∷ h) [] p = absurd p
   steps-replies s (e ∷ h) (t ∷ rest) p =
       let a = actionOf sheet (e .action) in
-      (answer-exists a (e .reply) t ((both-true (moves a s t) (answers a (e .reply) t) (p .1)) .1), steps-replies t h rest (p .2))
+      (reply-exists a (e .reply) t ((both-true (moves a s t) (replyHolds a (e .reply) t) (p .1)) .1), steps-replies t h rest (p .2))
 
   pub run-replied : (h : History) (run : List ℕ) → IsRun sheet h run → Replied sheet h
   unfolding IsRun

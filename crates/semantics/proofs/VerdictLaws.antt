@@ -134,7 +134,7 @@ module _ (sheet : Sheet) where
   unfolding counted
   counted-sorted = sorted-keep HistoryBefore nonempty (upTo (fails sheet) (histories sheet)) (sorted-upTo HistoryBefore (fails sheet) (histories sheet) (histories-sorted sheet))
 
-  -- "Stopped" is answered, with the budget, exactly if the count exceeds the budget.
+  -- "stopped" is answered, with the budget, exactly if the count exceeds the budget.
   pub means-stopped : (budget : ℕ) → budget < historyCount sheet → outcome sheet budget ≡ record { verdict = stopped budget; shown = [] }
   unfolding outcome if_then_else_
   means-stopped budget l = rw (lt-ltb budget (historyCount sheet) l)
@@ -161,7 +161,7 @@ module _ (sheet : Sheet) where
       go o k (inl p) = (p .0, let z : stopped b ≡ stopped budget = sym k ∙ ap (λ (x : Outcome). x .verdict) (p .1) in cc)
       go o k (inr p) = absurd (not-stopped (historyCount sheet) (failures sheet) b (sym (ap (λ (x : Outcome). x .verdict) (p .1)) ∙ k))
 
-  -- "Valid", with the count, is answered exactly if no full run that follows the routine fails the goal.
+  -- "valid", with the count, is answered exactly if no full run that follows the routine fails the goal.
   pub valid-means : (budget c : ℕ) → outcome sheet budget .verdict ≡ valid c
       → (historyCount sheet ≤ budget) × (c ≡ historyCount sheet) × ((h : History) (run : List ℕ) → Failing sheet h run → ⊥)
   valid-means budget c e = go (outcome sheet budget) e (by-budget budget)
@@ -184,7 +184,7 @@ module _ (sheet : Sheet) where
           let q = listed-failing starts m in
           absurd (none h (q .0) (q .1))
 
-  -- "Invalid", with the count and the length, is answered exactly if some does. The trace shown is that of such a run, and every other such run's comes later.
+  -- "invalid", with the count and the length, is answered exactly if some does. The trace shown is that of such a run, and every other such run's comes later.
   pub means-invalid : (budget : ℕ) → historyCount sheet ≤ budget → (h : History) (run : List ℕ) → Failing sheet h run
       → (l : ℕ) × (outcome sheet budget .verdict ≡ invalid (historyCount sheet) l)
   unfolding concluded

@@ -125,7 +125,7 @@ Readings =
     -- An unmentioned new fact is free.
     × (outcome (small 2 (change (new-fact 0) ∷ []) (negation (disjunction (fact 0) (fact 1))) (known (negation (fact 1))) (act 0 end)) 9
     ≡ record { verdict = invalid 1 1; shown = 0 ∷ 0 ∷ 1 ∷ [] })
-    -- "Known (a or b)" needs neither a nor b known.
+    -- "known (a or b)" needs neither a nor b known.
     × (outcome (small 1 [] top (known (disjunction (fact 0) (negation (fact 0)))) end) 9 ≡ record { verdict = valid 0; shown = [] })
     -- The goal is not tested in the run's own state: in a run that ends in state 1 fact 0 is true, and not known.
     × (outcome (small 1 [] top (not-known (fact 0)) end) 9 ≡ record { verdict = valid 0; shown = [] })

@@ -29,7 +29,7 @@ showsFailing sheet (s ∷ rest) =
     let h : History = shownHistory rest in
     isRun sheet h (s ∷ shownStates rest) && follows (routine sheet) h && fails sheet h
 
--- "A trace of even length or above 129 bytes is a no."
+-- "a trace of even length or above 129 bytes is a no"
 unfoldable pub isTraceLength : ℕ → Bool
 isTraceLength l = eqb (l % 2) 1 && leb l longestTrace
 

@@ -58,8 +58,8 @@ behindSpace n = space ∷ decimal n
 abbrev pub endLine : List ℕ
 endLine = lineFeed ∷ []
 
--- What an answer prints, with the trace memory after it: "`valid C`, `invalid C L`, `stopped C` or `refused R` .. all decimal; each line ends with a line feed.
--- After `invalid` a second line gives the trace", 1 + 2L bytes.
+-- What an answer prints, with the trace memory after it: "`valid C`, `invalid C L`, `stopped C` or `refused R`", "all decimal; each line ends with
+-- a line feed. After `invalid` a second line gives the trace", 1 + 2L bytes.
 unfoldable pub printedFor : Answer Verdict → (memory : List ℕ) → List ℕ
 unfolding decimal hexadecimal
 printedFor (refused r) memory = refusedWord ++ behindSpace r ++ endLine

@@ -1,4 +1,4 @@
--- Progression (2013): "keep the states where the reply holds; gather all next states". It is a method and defines nothing of document 01;
+-- The method: progression (2013), "keep the states where the reply holds; gather all next states". An auditor of the promises needs none of it;
 -- proofs/ProgressionLaws.antt shows its agreement with runs.
 use Prim.Native.Nat.{ℕ}
 use mathlib.Core.List.{List, [], _∷_}

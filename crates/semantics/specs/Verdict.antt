@@ -8,7 +8,7 @@ use lib.Dec.{ltb}
 use lib.ListN.{length, drop}
 use Rattle.lists.specs.Lists.{if_then_else_, upFrom, below, keep, upTo, nonempty, Before}
 use Rattle.format.specs.Syntax.{replyCount, Sheet, actionOf}
-use Rattle.format.specs.Format.{Answer, accepted, refused, reading}
+use Rattle.format.specs.Format.{Answer, accepted, refused, mostActs, reading}
 use Rattle.semantics.specs.Runs.{History, extended, replies, runs, holdsAfter, occurs}
 use Rattle.semantics.specs.Routine.{Policy, done, perform, routine, isFull}
 
@@ -107,9 +107,9 @@ judged budget old (refused r) = record { answer = refused r; memory = old }
 judged budget old (accepted sheet) =
     record { answer = accepted (outcome sheet budget .verdict); memory = written (outcome sheet budget .shown) old }
 
--- The trace of 64 actions, the longest there is (proofs/AcceptedLaws.antt, `trace-most`).
+-- "1 + 2L bytes": the bytes of the longest trace there is, 129 (proofs/AcceptedLaws.antt, `trace-most`).
 abbrev pub longestTrace : ℕ
-longestTrace = 129
+longestTrace = 1 + 2 * mostActs
 
 -- The verifier "takes a sheet, a budget (32 bits) and the trace memory". 30: "trace memory under 129 bytes (before anything else)".
 unfoldable pub verified : (bytes : List ℕ) (budget : ℕ) (old : List ℕ) → Verified

@@ -1,4 +1,4 @@
--- Sets of states as four words of 64 bits. "State s has weight 2^(s mod 64) in word s div 64." A state is a byte (document 01).
+-- Sets of states as four words of 64 bits. State s has bit s mod 64 of word s div 64. A state is a byte (document 01).
 use Prim.Native.Nat.{ℕ, zero, suc, _+_, _*_, _/_, _%_, _^_}
 use mathlib.Core.List.{List, [], _∷_}
 use mathlib.Core.Bool.{Bool}

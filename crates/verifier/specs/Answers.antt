@@ -11,7 +11,7 @@ use Rattle.verifier.specs.declared.verdict.Verdict.{Verdict}
 use Rattle.verifier.specs.Search.{Found, passed, failed, over}
 use Rattle.verifier.specs.Least.{leastStates}
 
--- "Valid" with the count, "invalid" with the count and the length, "stopped" with the budget; 30 for "trace memory under 129 bytes"; or the sheet's number.
+-- "valid" with the count, "invalid" with the count and the length, "stopped" with the budget; 30 for "trace memory under 129 bytes"; or the sheet's number.
 unfoldable pub answerOf : Verdict → Answer Meant
 unfolding numberOf
 answerOf (Verdict.Valid c) = accepted (valid c)

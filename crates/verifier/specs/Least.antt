@@ -1,5 +1,5 @@
--- The least run with a history over a routine's tables, whatever numbers are in the memory: by what is feasible backward, and least forward. It is a method and
--- defines nothing of document 01; proofs/LeastLaws.antt shows that it is the first run with the history.
+-- The method: the least run with a history over a routine's tables, by what is feasible backward, and least forward. An auditor of the promises needs none of it;
+-- proofs/LeastLaws.antt shows that it is the first run with the history.
 use Prim.Native.Nat.{ℕ, zero, suc, _+_, _-_, _/_, _%_, _≤_}
 use mathlib.Core.Path.{_≡_}
 use mathlib.Core.List.{List, [], _∷_}

@@ -1,4 +1,4 @@
--- What the search remembers of places from which everything passed, whatever numbers are in the memory. It is a method and defines nothing of document 01;
+-- The method: what the search remembers of places from which everything passed. An auditor of the promises needs none of it;
 -- proofs/MemoLaws.antt shows that what is recalled is what the search would find.
 use Prim.Native.Nat.{ℕ, _+_, _*_, _≤_, _<_}
 use mathlib.Core.Path.{_≡_, refl}
@@ -6,6 +6,7 @@ use mathlib.Core.List.{List, [], _∷_}
 use mathlib.Core.Bool.{Bool, _&&_}
 use lib.Dec.{eqb, leb, ltb}
 use lib.ListN.{length, getD}
+use Rattle.format.specs.Format.{mostActs}
 use Rattle.lists.specs.Lists.{if_then_else_}
 use Rattle.states.specs.declared.States.{States}
 use Rattle.format.specs.Syntax.{fact, negation, Epistemic, known, any-of}
@@ -59,7 +60,7 @@ module _ (heads nodes sets : List ℕ) (budget : ℕ) where
   -- the budget. (No replies lead on to node 0: a slot with that node is empty and says nothing.)
   unfoldable pub SlotSound : Slot → Type 0
   SlotSound k =
-      0 < k .onward → (left c : ℕ) → 64 ≤ left + 1 + k .depth → c ≤ budget
+      0 < k .onward → (left c : ℕ) → mostActs ≤ left + 1 + k .depth → c ≤ budget
       → answered heads nodes sets budget (searched heads nodes sets budget left (k .onward)) (k .set) (k .action) c ≡ reaching budget (c + k .behind)
 
   -- What every slot says is so.

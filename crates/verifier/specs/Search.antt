@@ -1,4 +1,4 @@
--- The search through the histories over a routine's tables, whatever numbers are in the memory. It is a method and defines nothing of document 01;
+-- The method: the search through the histories over a routine's tables, whatever numbers are in the memory. An auditor of the promises needs none of it;
 -- proofs/SearchLaws.antt shows its agreement with the histories of runs that follow the routine.
 use Prim.Native.Nat.{ℕ, zero, suc, _+_, _*_, _%_}
 use mathlib.Core.Path.{_≡_, refl}
@@ -6,6 +6,7 @@ use mathlib.Core.List.{List, [], _∷_, _++_, map}
 use mathlib.Core.Bool.{true, false}
 use lib.Dec.{eqb}
 use lib.ListN.{length, take}
+use Rattle.format.specs.Format.{mostActs}
 use Rattle.lists.specs.Lists.{if_then_else_, upFrom, below, nonempty}
 use Rattle.states.specs.declared.States.{States}
 use Rattle.states.specs.Sets.{members}
@@ -36,7 +37,7 @@ andThen (passed n) onward = onward n
 andThen (failed n rest) onward = failed n rest
 andThen over onward = over
 
--- "A smaller reply before a larger."
+-- "a smaller reply before a larger"
 unfoldable pub eachReply : (each : (r c : ℕ) → Found) → (rs : List ℕ) (c : ℕ) → Found
 unfolding andThen
 eachReply each [] c = passed c
@@ -69,7 +70,7 @@ module _ (heads nodes sets : List ℕ) (budget : ℕ) where
   searched zero at set c = atPlace (settled nodes sets set at) (λ node action. over) c
   searched (suc left) at set c = atPlace (settled nodes sets set at) (λ node action. answered (searched left (node + 1)) set action c) c
 
--- "One byte (action times 8 plus reply)." On any memory it fits a byte; action numbers of a sheet are below 32, replies below 8.
+-- "one byte (action times 8 plus reply)". On any memory it fits a byte; action numbers of a sheet are below 32, replies below 8.
 unfoldable pub pathByte : (action reply : ℕ) → ℕ
 pathByte action reply = action % 32 * 8 + reply % 8
 
@@ -100,7 +101,7 @@ asked goal = record { facts = 1; actions = probe (fact 0 ∷ negation (fact 0) �
 -- The search from the start of such a sheet, where both states are possible and nothing is counted.
 found : (goal : Epistemic) (budget : ℕ) → Found
 unfolding asked sheetHeads nodeCells setWords searched
-found goal budget = searched (sheetHeads (asked goal)) (nodeCells (asked goal)) (setWords (asked goal)) budget 64 0 (low 3) 0
+found goal budget = searched (sheetHeads (asked goal)) (nodeCells (asked goal)) (setWords (asked goal)) budget mostActs 0 (low 3) 0
 
 -- The goal that the fact is known holds after reply 0 and fails after reply 1: that is the first failing history, and the count has both, "up to and including the first
 -- that does". It equals the budget, so that it does not exceed it.
@@ -108,12 +109,12 @@ count-is-budget : found (known (fact 0)) 2 ≡ failed 2 (entry 0 1 ∷ [])
 unfolding found
 count-is-budget = refl
 
--- "It answers stopped .. if and only if that count exceeds the budget."
+-- "stopped" is answered "if and only if that count exceeds the budget".
 count-exceeds : found (known (fact 0)) 1 ≡ over
 unfolding found
 count-exceeds = refl
 
--- "All of them if no full one fails the goal": the fact known, or its negation.
+-- "all of them if no full one fails the goal": the fact known, or its negation.
 all-passed : found (any-of (known (fact 0)) (known (negation (fact 0)))) 2 ≡ passed 2
 unfolding found
 all-passed = refl

@@ -15,7 +15,8 @@ ghost use lib.ListN.{length};
 ghost use Rattle.lists.specs.Lists.{exists, below};
 ghost use Rattle.states.specs.Sets.{member, setOf};
 ghost use Rattle.semantics.specs.Runs.{entry};
-ghost use Rattle.semantics.specs.Verdict.{trace, written};
+ghost use Rattle.format.specs.Format.{mostActs};
+ghost use Rattle.semantics.specs.Verdict.{longestTrace, trace, written};
 ghost use Rattle.routine.specs.Memory.{write, words, setAt};
 ghost use Rattle.verifier.specs.Least.{preimage as preimageOf, pathFrom, leastStates, FeasibleFrom};
 
@@ -100,7 +101,7 @@ fn fill_feasible(
     len: usize,
     feasible: &mut [u64; FEASIBLE_WORDS],
 )
-    requires { ⌜ (len ≤ 64) × (length (now feasible) ≡ 260) ⌝ }
+    requires { ⌜ (len ≤ mostActs) × (length (now feasible) ≡ 4 * (mostActs + 1)) ⌝ }
     ensures { λ r. ⌜ FeasibleFrom (now (heads .entry)) (now (sets .entry)) (now (path .entry)) len 0 (now (feasible .exit)) ⌝ }
 {
     let mut k = len;
@@ -124,7 +125,7 @@ fn least_along(
     start: States,
     shown: &mut [u8],
 )
-    requires { ⌜ (len ≤ 64) × (129 ≤ length (now shown)) × FeasibleFrom (now heads) (now sets) (now path) len 0 (now feasible) ⌝ }
+    requires { ⌜ (len ≤ mostActs) × (longestTrace ≤ length (now shown)) × FeasibleFrom (now heads) (now sets) (now path) len 0 (now feasible) ⌝ }
     ensures { λ r. ⌜ now (shown .exit) ≡ written (trace (pathFrom (now (path .entry)) 0 len) (leastStates (now (heads .entry)) (now (sets .entry)) start (pathFrom (now (path .entry)) 0 len))) (now (shown .entry)) ⌝ }
 {
     let mut s = start.intersect(feasible_at(feasible, 0)).least();
@@ -147,7 +148,7 @@ pub(crate) fn show(
     start: States,
     shown: &mut [u8],
 )
-    requires { ⌜ (len ≤ 64) × (129 ≤ length (now shown)) ⌝ }
+    requires { ⌜ (len ≤ mostActs) × (longestTrace ≤ length (now shown)) ⌝ }
     ensures { λ r. ⌜ now (shown .exit) ≡ written (trace (pathFrom (now (path .entry)) 0 len) (leastStates (now (heads .entry)) (now (sets .entry)) start (pathFrom (now (path .entry)) 0 len))) (now (shown .entry)) ⌝ }
 {
     let mut feasible = [0u64; FEASIBLE_WORDS];

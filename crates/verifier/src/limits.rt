@@ -1,10 +1,10 @@
 // The sizes of the verifier's memory.
 
 // The most actions of a run.
-pub(crate) const ACTIONS: usize = 64;
+pub(crate) const ACTIONS: usize = reader::ACTION_NODES;
 
-// The words of the feasible sets: one before and after each action.
-pub(crate) const FEASIBLE_WORDS: usize = 260;
+// The words of the feasible sets: one set before the first action and one after each.
+pub(crate) const FEASIBLE_WORDS: usize = 4 * (ACTIONS + 1);
 
 // What the search remembers: its slots, the words of each, and all of them.
 pub(crate) const SLOTS: u64 = 256;

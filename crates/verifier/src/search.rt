@@ -17,6 +17,7 @@ use states::States;
 ghost use mathlib.Core.Path.{_≡_};
 ghost use Prim.Native.Nat.{_+_, _-_, _≤_};
 ghost use lib.ListN.{length};
+ghost use Rattle.format.specs.Format.{mostActs};
 ghost use Rattle.verifier.specs.Search.{pathByte, searched, searchedOf, SearchedBy};
 ghost use Rattle.verifier.specs.Memo.{reaching, Sound};
 
@@ -62,8 +63,8 @@ pub(crate) fn search(
     count: u32,
     budget: u32,
 ) -> Searched
-    requires { ⌜ (depth ≤ 64) × (count ≤ budget) × (length (now path) ≡ 64) × Sound (now heads) (now nodes) (now sets) budget (now memo) ⌝ }
-    ensures { λ r. ⌜ SearchedBy depth (now (path .entry)) (now (path .exit)) r (searched (now (heads .entry)) (now (nodes .entry)) (now (sets .entry)) budget (64 - depth) at set count) × Sound (now (heads .entry)) (now (nodes .entry)) (now (sets .entry)) budget (now (memo .exit)) ⌝ }
+    requires { ⌜ (depth ≤ mostActs) × (count ≤ budget) × (length (now path) ≡ mostActs) × Sound (now heads) (now nodes) (now sets) budget (now memo) ⌝ }
+    ensures { λ r. ⌜ SearchedBy depth (now (path .entry)) (now (path .exit)) r (searched (now (heads .entry)) (now (nodes .entry)) (now (sets .entry)) budget (mostActs - depth) at set count) × Sound (now (heads .entry)) (now (nodes .entry)) (now (sets .entry)) budget (now (memo .exit)) ⌝ }
 {
     match settle(nodes, sets, set, at) {
         Place::End(holds) => {

@@ -15,7 +15,8 @@ use states::States;
 ghost use mathlib.Core.Path.{_≡_};
 ghost use Prim.Native.Nat.{_≤_};
 ghost use lib.ListN.{length};
-ghost use Rattle.semantics.specs.Verdict.{verified};
+ghost use Rattle.format.specs.Format.{mostActs};
+ghost use Rattle.semantics.specs.Verdict.{longestTrace, verified};
 ghost use Rattle.verifier.specs.Search.{searched};
 ghost use Rattle.verifier.specs.Answers.{answerOf, verdictFor, memoryFor};
 
@@ -38,8 +39,8 @@ fn decide(
     budget: u32,
     trace: &mut [u8],
 ) -> Verdict
-    requires { ⌜ 129 ≤ length (now trace) ⌝ }
-    ensures { λ r. ⌜ (r ≡ verdictFor budget (searched (now (heads .entry)) (now (nodes .entry)) (now (sets .entry)) budget 64 0 start 0)) × (now (trace .exit) ≡ memoryFor (now (heads .entry)) (now (sets .entry)) start (searched (now (heads .entry)) (now (nodes .entry)) (now (sets .entry)) budget 64 0 start 0) (now (trace .entry))) ⌝ }
+    requires { ⌜ longestTrace ≤ length (now trace) ⌝ }
+    ensures { λ r. ⌜ (r ≡ verdictFor budget (searched (now (heads .entry)) (now (nodes .entry)) (now (sets .entry)) budget mostActs 0 start 0)) × (now (trace .exit) ≡ memoryFor (now (heads .entry)) (now (sets .entry)) start (searched (now (heads .entry)) (now (nodes .entry)) (now (sets .entry)) budget mostActs 0 start 0) (now (trace .entry))) ⌝ }
 {
     let mut path = [0u8; ACTIONS];
     let mut memo = [0u64; MEMO_WORDS];
@@ -66,8 +67,8 @@ fn decide(
 
 // The verdict on a sheet with a budget. Where it is invalid the memory begins with the least failing trace; all other
 // bytes of the memory stay.
-pub fn verify(s: &[u8], budget: u32, trace: &mut [u8]) -> Verdict
-    ensures { λ r. ⌜ (answerOf r ≡ verified (now (s .entry)) budget (now (trace .entry)) .answer) × (now (trace .exit) ≡ verified (now (s .entry)) budget (now (trace .entry)) .memory) ⌝ }
+pub fn verify(bytes: &[u8], budget: u32, trace: &mut [u8]) -> Verdict
+    ensures { λ r. ⌜ (answerOf r ≡ verified (now (bytes .entry)) budget (now (trace .entry)) .answer) × (now (trace .exit) ≡ verified (now (bytes .entry)) budget (now (trace .entry)) .memory) ⌝ }
 {
     if trace.len() < TRACE {
         return Verdict::ShortMemory;
@@ -75,7 +76,7 @@ pub fn verify(s: &[u8], budget: u32, trace: &mut [u8]) -> Verdict
     let mut heads = [0u16; HEAD_CELLS];
     let mut nodes = [0u16; NODE_CELLS];
     let mut sets = [0u64; SET_WORDS];
-    match prepare(s, &mut heads, &mut nodes, &mut sets) {
+    match prepare(bytes, &mut heads, &mut nodes, &mut sets) {
         Prepared::Refused(r) => Verdict::Refused(r),
         Prepared::Ready(start) => decide(&heads, &nodes, &sets, start, budget, trace),
     }

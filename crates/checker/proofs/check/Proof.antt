@@ -7,7 +7,7 @@ use borrow.Author.Needs.{needs}
 use Rattle.format.specs.Format.{accepted}
 use Rattle.semantics.specs.Checker.{checked}
 use Rattle.routine.specs.Tables.{preparedOf}
-use Rattle.checker.specs.Shown.{answerOf}
+use Rattle.checker.specs.Answers.{answerOf}
 use Rattle.checker.proofs.CheckLaws.{refused-checked, ready-checked}
 use Rattle.checker.proofs.check.Statement.{statement}
 use Rattle.checker.proofs.check.Tie as tie
@@ -18,7 +18,7 @@ use Rattle.routine.proofs.prepare.Reads as prepare-reads
 
 -- Behind the call of `shows`: its result is the answer.
 shown : (c : lts.After-shows (prepare-reads.Asked, prepare-reads.Learnt, shows-reads.Asked, shows-reads.Learnt) reads.Pre reads.Post)
-    → accepted (c .shows .result) ≡ checked (now (c .before .before .before .before .before .before .before .before .before .before .before .before .before .args .s)) (now (c .before .before .before .before .before .before .before .before .before .before .before .before .before .args .trace))
+    → accepted (c .shows .result) ≡ checked (now (c .before .before .before .before .before .before .before .before .before .before .before .before .before .args .bytes)) (now (c .before .before .before .before .before .before .before .before .before .before .before .before .before .args .trace))
 shown c =
     let p = c .before .before .before .before .before .before .before .prepare .ensures in
     ready-checked _ _ _ (sym (ap preparedOf (c .before .before .before .before .before .start .given .1)) ∙ p .0)

@@ -1,6 +1,6 @@
 -- `exports::recovery_check` meets its contract: the number is that of the checker's answer. Assumes nothing.
 use mathlib.Core.Path.{sym, ap, _∙_}
-use Rattle.checker.specs.Shown.{answerOf}
+use Rattle.checker.specs.Answers.{answerOf}
 use Rattle.exports.specs.Numbers.{checkedNumber}
 use borrow.Author.Needs.{needs}
 use Rattle.exports.proofs.recovery_check.Statement.{statement}

@@ -6,17 +6,17 @@ use borrow.Author.Needs.{needs}
 use denote.Ref.{now}
 use Rattle.states.specs.Sets.{member, setOf}
 use Rattle.format.specs.Format.{mapped, objectives}
+use Rattle.reader.proofs.TestLaws.{joinedTo, set-own, some-start, some-more, some-refused, some-end}
 use Rattle.reader.specs.Answers.{setRead, inTheory}
-use Rattle.reader.specs.Stages.{someHolds}
-use Rattle.reader.proofs.TestLaws.{joinedTo, set-own, replies-start, replies-more, replies-refused, replies-end}
+use Rattle.reader.specs.Method.{someHolds}
 use Rattle.reader.proofs.actions.evaluate_some.Statement.{statement}
 use Rattle.reader.proofs.actions.evaluate_some.Tie as tie
 
 abbrev Inv-loop : tie.InvT-loop
-Inv-loop s at m n set₀ p₀ i₀ set p i = (i ≤ m) × (set ≡ setOf (member set)) × (mapped (joinedTo set) (objectives n (m - i) s p) ≡ mapped someHolds (objectives n m s at))
+Inv-loop bytes at m n set₀ p₀ i₀ set p i = (i ≤ m) × (set ≡ setOf (member set)) × (mapped (joinedTo set) (objectives n (m - i) bytes p) ≡ mapped someHolds (objectives n m bytes at))
 
 abbrev μ-loop : tie.MeasureT-loop
-μ-loop s at m n set₀ p₀ i₀ set p i = m - i
+μ-loop bytes at m n set₀ p₀ i₀ set p i = m - i
 
 empty-requires : tie.Need-empty-requires Inv-loop μ-loop
 empty-requires c κs = search needs
@@ -24,7 +24,7 @@ empty-requires c κs = search needs
 loop-holds : tie.Need-loop-holds Inv-loop μ-loop
 loop-holds c =
     let a = c .before .before .args in
-    (omega arith, set-own _ _ (c .empty .ensures), replies-start (a .n) (now (a .s)) (a .at) (a .m) (c .empty .result) (c .empty .ensures))
+    (omega arith, set-own _ _ (c .empty .ensures), some-start (a .n) (now (a .bytes)) (a .at) (a .m) (c .empty .result) (c .empty .ensures))
 
 evaluate-requires : tie.Need-evaluate-requires Inv-loop μ-loop
 evaluate-requires c κs = search needs
@@ -37,7 +37,7 @@ unfolding setRead inTheory
 returns c =
     let a = c .before .before .before .before .before .before .before .before .args in
     let l = c .before .before .before .before .before .loop in
-    sym (replies-refused (a .n) (now (a .s)) (l .p) (a .m) (l .i) (l .set) (omega arith) (sym (c .before .before .before .evaluate .ensures) ∙ ap setRead (c .before .r .given .1))) ∙ l .inv .2
+    sym (some-refused (a .n) (now (a .bytes)) (l .p) (a .m) (l .i) (l .set) (omega arith) (sym (c .before .before .before .evaluate .ensures) ∙ ap setRead (c .before .r .given .1))) ∙ l .inv .2
 
 enum-known-reply : tie.Need-enum-known-reply Inv-loop μ-loop
 enum-known-reply c = search needs
@@ -58,7 +58,7 @@ loop-again c =
     let l = c .before .before .before .before .before .before .loop in (
       omega arith,
       set-own _ _ (c .union .ensures),
-      sym (replies-more (a .n) (now (a .s)) (l .p) (a .m) (l .i) (l .set) _ _ _ (omega arith) (sym (c .before .before .before .before .evaluate .ensures) ∙ ap setRead (c .before .before .reply .given .1)) (c .union .ensures))
+      sym (some-more (a .n) (now (a .bytes)) (l .p) (a .m) (l .i) (l .set) _ _ _ (omega arith) (sym (c .before .before .before .before .evaluate .ensures) ∙ ap setRead (c .before .before .reply .given .1)) (c .union .ensures))
           ∙ l .inv .2,
     )
 
@@ -67,7 +67,7 @@ unfolding setRead
 returns-2 c =
     let a = c .before .before .before .before .args in
     let l = c .before .loop in
-    sym (replies-end (a .n) (now (a .s)) (l .p) (a .m) (l .i) (l .set) (omega arith) (l .inv .1)) ∙ l .inv .2
+    sym (some-end (a .n) (now (a .bytes)) (l .p) (a .m) (l .i) (l .set) (omega arith) (l .inv .1)) ∙ l .inv .2
 
 pub evaluate-some-spec : {M : Type 1} → statement M
 evaluate-some-spec =

@@ -8,27 +8,27 @@ use borrow.Author.Tests.{not-true, not-false}
 use Rattle.states.specs.declared.States.{States}
 use Rattle.states.specs.Sets.{member, members}
 use Rattle.format.specs.Syntax.{Objective}
-use Rattle.format.specs.Format.{got, objective}
-use Rattle.reader.specs.Answers.{table}
-use Rattle.reader.specs.declared.formula.View.{View}
+use Rattle.format.specs.Format.{got, theory}
 use Rattle.reader.proofs.TestLaws.{Tried, tried-first, tried-outside, tried-found, tried-stuck, tried-all, none-more}
+use Rattle.reader.specs.Answers.{statesIn}
+use Rattle.reader.specs.declared.formula.View.{View}
 use Rattle.reader.proofs.actions.leads_on.Statement.{statement}
 use Rattle.reader.proofs.actions.leads_on.Tie as tie
 
 abbrev Inv-loop : tie.InvT-loop
-Inv-loop s at n space size old₀ state row new₀ old new = (old ≡ old₀) × (new ≤ size) × ((t : ℕ) → t < new → member row t ≡ false)
+Inv-loop bytes at n space old₀ state row new₀ old new = (old ≡ old₀) × (new ≤ 256) × ((t : ℕ) → t < new → member row t ≡ false)
 
 abbrev μ-loop : tie.MeasureT-loop
-μ-loop s at n space size old₀ state row new₀ old new = size - new
+μ-loop bytes at n space old₀ state row new₀ old new = 256 - new
 
 abbrev Inv-states : tie.InvT-states
-Inv-states s at n space size old₀ old = (old ≤ size) × ((theory : Objective) (end : ℕ) → objective n true 16 s at ≡ got theory end → Tried theory space old)
+Inv-states bytes at n space old₀ old = (old ≤ 256) × ((f : Objective) (end : ℕ) → theory n bytes at ≡ got f end → Tried f space old)
 
 abbrev μ-states : tie.MeasureT-states
-μ-states s at n space size old₀ old = size - old
+μ-states bytes at n space old₀ old = 256 - old
 
 states-holds : tie.Need-states-holds Inv-loop μ-loop Inv-states μ-states
-states-holds c = let a = c .before .args in (omega arith, λ theory end e. tried-first theory (a .space))
+states-holds c = let a = c .before .args in (omega arith, λ f end e. tried-first f (a .space))
 
 cast-state : tie.Need-cast-state Inv-loop μ-loop Inv-states μ-states
 cast-state c = omega arith
@@ -48,7 +48,7 @@ states-again c =
     let o = c .before .before .before .states in
     let e : o .old % 256 ≡ o .old = omega arith in
     let out : member (a .space) (o .old) ≡ false = ap (member (a .space)) (sym e) ∙ sym (c .before .has .ensures) ∙ not-true _ (c .if1 .taken) in
-    (omega arith, λ theory end k. tried-outside theory (a .space) (o .inv .1 theory end k) out)
+    (omega arith, λ f end k. tried-outside f (a .space) (o .inv .1 f end k) out)
 
 states-after-requires : tie.Need-states-after-requires Inv-loop μ-loop Inv-states μ-states
 states-after-requires c κs = search needs
@@ -66,7 +66,7 @@ has-requires-2 : tie.Need-has-requires-2 Inv-loop μ-loop Inv-states μ-states
 has-requires-2 c κs = search needs
 
 add-old-2 : tie.Need-add-old-2 Inv-loop μ-loop Inv-states μ-states
-add-old-2 c = omega (arith, c .before .before .before .before .before .before .before .before .before .before .before .pre .1)
+add-old-2 c = omega arith
 
 states-less-2 : tie.Need-states-less-2 Inv-loop μ-loop Inv-states μ-states
 states-less-2 c = omega arith
@@ -77,14 +77,14 @@ states-again-2 c =
     let l = c .before .before .before .loop in
     let o = c .before .before .before .before .before .before .before .before .before .states in
     let row = c .before .before .before .before .intersect .result in
-    let e : o .old % 256 ≡ o .old = omega (arith, c .before .before .before .before .before .before .before .before .before .before .before .pre .1) in
-    let d : l .new % 256 ≡ l .new = omega (arith, c .before .before .before .before .before .before .before .before .before .before .before .pre .1) in
+    let e : o .old % 256 ≡ o .old = omega arith in
+    let d : l .new % 256 ≡ l .new = omega arith in
     let here : member row (l .new) ≡ true = ap (member row) (sym d) ∙ sym (c .before .has2 .ensures) ∙ c .if2 .taken in (
-      omega (arith, c .before .before .before .before .before .before .before .before .before .before .before .pre .1),
-      λ theory end k.
-          subst (λ (x : ℕ). Tried theory (a .space) (x + 1)) (sym (l .inv .0))
-          (tried-found theory (a .space) (o .inv .1 theory end k) (omega (arith, c .before .before .before .before .before .before .before .before .before .before .before .pre .1))
-          (c .before .before .before .before .before .states-after .ensures theory end k ∙ ap (λ (x : ℕ). table (View.Next x) theory) e)
+      omega arith,
+      λ f end k.
+          subst (λ (x : ℕ). Tried f (a .space) (x + 1)) (sym (l .inv .0))
+          (tried-found f (a .space) (o .inv .1 f end k) (omega arith)
+          (c .before .before .before .before .before .states-after .ensures f end k ∙ ap (λ (x : ℕ). statesIn (View.Next x) f) e)
           (c .before .before .before .before .intersect .ensures) here),
     )
 
@@ -109,17 +109,17 @@ returns c =
     let o = c .before .before .before .before .before .before .before .states in
     let e : o .old % 256 ≡ o .old = omega arith in
     let inside : member (a .space) (o .old) ≡ true = ap (member (a .space)) (sym e) ∙ sym (c .before .before .before .before .before .has .ensures) ∙ not-false _ (c .before .before .before .before .if1 .left) in
-    λ theory end k.
-    sym (tried-stuck theory (a .space) (o .old) (c .before .before .before .states-after .result) (c .before .before .intersect .result) (omega arith) inside
-    (c .before .before .before .states-after .ensures theory end k ∙ ap (λ (x : ℕ). table (View.Next x) theory) e)
-    (c .before .before .intersect .ensures) (λ t i. l .inv .2 t (omega (arith, c .before .before .before .before .before .before .before .before .before .pre .2 t i))))
+    λ f end k.
+    sym (tried-stuck f (a .space) (o .old) (c .before .before .before .states-after .result) (c .before .before .intersect .result) (omega arith) inside
+    (c .before .before .before .states-after .ensures f end k ∙ ap (λ (x : ℕ). statesIn (View.Next x) f) e)
+    (c .before .before .intersect .ensures) (λ t i. l .inv .2 t (omega arith)))
 
 returns-2 : tie.Need-returns-2 Inv-loop μ-loop Inv-states μ-states
 returns-2 c =
     let a = c .before .before .before .args in
     let o = c .before .states in
-    let e : o .old ≡ a .size = omega arith in
-    λ theory end k. sym (tried-all theory (a .space) (c .before .before .before .pre .2) (subst (λ (x : ℕ). Tried theory (a .space) x) e (o .inv .1 theory end k)))
+    let e : o .old ≡ 256 = omega arith in
+    λ f end k. sym (tried-all f (a .space) (subst (λ (x : ℕ). Tried f (a .space) x) e (o .inv .1 f end k)))
 
 pub leads-on-spec : {M : Type 1} → statement M
 leads-on-spec =

@@ -6,19 +6,19 @@ use native.Mathlib.Nat.{sub-zero}
 use borrow.Author.Needs.{needs}
 use denote.Ref.{now}
 use Rattle.format.specs.Format.{mapped, actionList}
-use Rattle.reader.specs.Answers.{endRead, ending}
-use Rattle.reader.proofs.TestLaws.{actions-more, actions-refused, actions-end}
+use Rattle.reader.proofs.TestLaws.{list-more, list-refused, list-end}
+use Rattle.reader.specs.Method.{endRead, ending}
 use Rattle.reader.proofs.actions.read_actions.Statement.{statement}
 use Rattle.reader.proofs.actions.read_actions.Tie as tie
 
 abbrev Inv-loop : tie.InvT-loop
-Inv-loop s at n k p₀ i₀ p i = (i ≤ k) × (mapped ending (actionList n (k - i) s p) ≡ mapped ending (actionList n k s at))
+Inv-loop bytes at n k p₀ i₀ p i = (i ≤ k) × (mapped ending (actionList n (k - i) bytes p) ≡ mapped ending (actionList n k bytes at))
 
 abbrev μ-loop : tie.MeasureT-loop
-μ-loop s at n k p₀ i₀ p i = k - i
+μ-loop bytes at n k p₀ i₀ p i = k - i
 
 loop-holds : tie.Need-loop-holds Inv-loop μ-loop
-loop-holds c = let a = c .before .args in (omega arith, ap (λ (j : ℕ). mapped ending (actionList (a .n) j (now (a .s)) (a .at))) (sub-zero (a .k)))
+loop-holds c = let a = c .before .args in (omega arith, ap (λ (j : ℕ). mapped ending (actionList (a .n) j (now (a .bytes)) (a .at))) (sub-zero (a .k)))
 
 read-action-requires : tie.Need-read-action-requires Inv-loop μ-loop
 read-action-requires c κs = search needs
@@ -31,7 +31,7 @@ unfolding endRead
 returns c =
     let a = c .before .before .before .before .before .before .before .args in
     let l = c .before .before .before .before .before .loop in
-    sym (actions-refused (a .n) (now (a .s)) (l .p) (a .k) (l .i) (omega arith) (sym (c .before .before .before .read-action .ensures) ∙ ap endRead (c .before .r .given .1))) ∙ l .inv .1
+    sym (list-refused (a .n) (now (a .bytes)) (l .p) (a .k) (l .i) (omega arith) (sym (c .before .before .before .read-action .ensures) ∙ ap endRead (c .before .r .given .1))) ∙ l .inv .1
 
 enum-known-next : tie.Need-enum-known-next Inv-loop μ-loop
 enum-known-next c = search needs
@@ -48,7 +48,7 @@ loop-again c =
     let a = c .before .before .before .before .before .before .before .args in
     let l = c .before .before .before .before .before .loop in (
       omega arith,
-      sym (actions-more (a .n) (now (a .s)) (l .p) (a .k) (l .i) (omega arith) (sym (c .before .before .before .read-action .ensures) ∙ ap endRead (c .before .next .given .1))) ∙ l .inv .1,
+      sym (list-more (a .n) (now (a .bytes)) (l .p) (a .k) (l .i) (omega arith) (sym (c .before .before .before .read-action .ensures) ∙ ap endRead (c .before .next .given .1))) ∙ l .inv .1,
     )
 
 returns-2 : tie.Need-returns-2 Inv-loop μ-loop
@@ -56,7 +56,7 @@ unfolding endRead
 returns-2 c =
     let a = c .before .before .before .args in
     let l = c .before .loop in
-    sym (actions-end (a .n) (now (a .s)) (l .p) (a .k) (l .i) (omega arith)) ∙ l .inv .1
+    sym (list-end (a .n) (now (a .bytes)) (l .p) (a .k) (l .i) (omega arith)) ∙ l .inv .1
 
 pub read-actions-spec : {M : Type 1} → statement M
 read-actions-spec =

@@ -1,58 +1,60 @@
--- `reader::actions::test_action` meets its contract: the test of a change or of a probe, by the kind. Assumes nothing.
+-- `reader::actions::test_action` meets its contract: the tests of a theory or of replies, behind the kind. Assumes nothing.
 use mathlib.Core.Path.{sym, ap, _∙_}
-use borrow.Author.Needs.{needs}
 use denote.Ref.{now}
 use Rattle.states.specs.Sets.{members}
-use Rattle.reader.specs.Answers.{numberOf, fieldRead, endRead}
-use Rattle.reader.specs.Stages.{tested}
-use Rattle.reader.proofs.TestLaws.{action-cut, action-change, action-probe, tested-fault}
+use Rattle.reader.specs.Answers.{numberOf, kindRead}
+use Rattle.reader.specs.Method.{passedTo}
+use Rattle.reader.proofs.TestLaws.{kind-tested, change-tested, probe-tested}
+use borrow.Author.Needs.{needs}
 use Rattle.reader.proofs.actions.test_action.Statement.{statement}
 use Rattle.reader.proofs.actions.test_action.Tie as tie
 
-field-at-requires : tie.Need-field-at-requires
-field-at-requires c κs = search needs
+kind-at-requires : tie.Need-kind-at-requires
+kind-at-requires c κs = search needs
 
-enum-told : tie.Need-enum-told
-enum-told c = search needs
+enum-known-r : tie.Need-enum-known-r
+enum-known-r c = search needs
 
-enum-known-kind : tie.Need-enum-known-kind
-enum-known-kind c = search needs
+enum-known-next : tie.Need-enum-known-next
+enum-known-next c = search needs
 
-test-change-requires : tie.Need-test-change-requires
-test-change-requires c κs = search needs
+test-theory-requires : tie.Need-test-theory-requires
+test-theory-requires c κs = search needs
+
+enum-known-next-2 : tie.Need-enum-known-next-2
+enum-known-next-2 c = search needs
+
+test-replies-requires : tie.Need-test-replies-requires
+test-replies-requires c κs = search needs
 
 returns : tie.Need-returns
-unfolding fieldRead
+unfolding passedTo kindRead
 returns c =
-    let a = c .before .before .before .before .before .before .before .args in
-    let e = action-change (a .n) (now (a .s)) (a .at) (sym (c .before .before .before .before .before .field-at .ensures) ∙ ap fieldRead (c .before .before .before .kind .given .1)) (c .before .if1 .taken) in
-    c .test-change .ensures ∙ sym (ap (tested (members (a .space))) e)
-
-test-probe-requires : tie.Need-test-probe-requires
-test-probe-requires c κs = search needs
+    let a = c .before .before .before .before .before .args in
+    kind-tested (members (a .space)) (a .n) (now (a .bytes)) (a .at) (c .before .r .given .0 .0) (sym (c .before .before .before .kind-at .ensures) ∙ ap kindRead (c .before .r .given .1))
 
 returns-2 : tie.Need-returns-2
-unfolding fieldRead endRead numberOf
+unfolding kindRead
 returns-2 c =
-    let a = c .before .before .before .before .args in
-    sym (tested-fault (members (a .space)) _ (action-cut (a .n) (now (a .s)) (a .at) (sym (c .before .before .field-at .ensures) ∙ ap fieldRead (c .enum-told .given .1))))
+    let a = c .before .before .before .before .before .before .args in
+    change-tested (members (a .space)) (a .n) (now (a .bytes)) (a .at) (sym (c .before .before .before .before .kind-at .ensures) ∙ ap kindRead (c .before .before .next .given .1)) (c .test-theory .ensures)
 
 returns-3 : tie.Need-returns-3
-unfolding fieldRead
+unfolding kindRead
 returns-3 c =
-    let a = c .before .before .before .before .before .before .before .args in
-    let e = action-probe (a .n) (now (a .s)) (a .at) (sym (c .before .before .before .before .before .field-at .ensures) ∙ ap fieldRead (c .before .before .before .kind .given .1)) (c .before .if1 .left) in
-    c .test-probe .ensures ∙ sym (ap (tested (members (a .space))) e)
+    let a = c .before .before .before .before .before .before .args in
+    probe-tested (members (a .space)) (a .n) (now (a .bytes)) (a .at) (sym (c .before .before .before .before .kind-at .ensures) ∙ ap kindRead (c .before .before .next2 .given .1)) (c .test-replies .ensures)
 
 pub test-action-spec : {M : Type 1} → statement M
 test-action-spec =
     tie.close
     (tie.spec
-    field-at-requires
-    enum-told
-    enum-known-kind
-    test-change-requires
+    kind-at-requires
+    enum-known-r
+    enum-known-next
+    test-theory-requires
+    enum-known-next-2
+    test-replies-requires
     returns
-    test-probe-requires
     returns-2
     returns-3)

@@ -19,7 +19,7 @@ shr-result c = search needs
 returns : tie.Need-returns
 returns c =
     let a = c .before .before .args in
-    window-field (a .s .now) (a .at) (c .window .result) (c .window .ensures) (a .k) (c .before .before .pre .2)
+    window-field (a .bytes .now) (a .at) (c .window .result) (c .window .ensures) (a .k) (c .before .before .pre .2)
 
 pub bits-spec : {M : Type 1} → statement M
 bits-spec = tie.close (tie.spec window-requires shl-result sub-result shr-result returns)

@@ -38,14 +38,14 @@ returns : tie.Need-returns
 returns c q h =
     let a = c .before .before .before .before .before .before .args in
     ap₂ (λ (x y : ℕ). (x * 256 + y) / 2 ^ (15 - q) % 2) (c .before .before .before .wide .ensures) (c .wide2 .ensures)
-    ∙ window-bits (a .s .now) (a .i) (omega (arith, c .before .shared-slice-known3 .given (a .i + 1))) q h
+    ∙ window-bits (a .bytes .now) (a .i) (omega (arith, c .before .shared-slice-known3 .given (a .i + 1))) q h
 
 returns-2 : tie.Need-returns-2
 returns-2 c q h =
     let a = c .before .before .before .before .args in
-    let none : getD (a .s .now) (a .i + 1) 0 ≡ 0 = List·getD-eq-default (a .s .now) 0 {n = a .i + 1} (omega arith) in
-    let e : c .before .wide .result * 256 ≡ getD (a .s .now) (a .i) 0 * 256 + getD (a .s .now) (a .i + 1) 0 = omega (arith, c .before .wide .ensures) in
-    ap (λ (x : ℕ). x / 2 ^ (15 - q) % 2) e ∙ window-bits (a .s .now) (a .i) (omega arith) q h
+    let none : getD (a .bytes .now) (a .i + 1) 0 ≡ 0 = List·getD-eq-default (a .bytes .now) 0 {n = a .i + 1} (omega arith) in
+    let e : c .before .wide .result * 256 ≡ getD (a .bytes .now) (a .i) 0 * 256 + getD (a .bytes .now) (a .i + 1) 0 = omega (arith, c .before .wide .ensures) in
+    ap (λ (x : ℕ). x / 2 ^ (15 - q) % 2) e ∙ window-bits (a .bytes .now) (a .i) (omega arith) q h
 
 pub window-spec : {M : Type 1} → statement M
 window-spec =

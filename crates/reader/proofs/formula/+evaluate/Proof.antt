@@ -10,10 +10,10 @@ use Rattle.states.specs.declared.States.{States}
 use Rattle.reader.specs.declared.formula.View.{View}
 use Rattle.format.specs.Syntax.{Objective}
 use Rattle.format.specs.Format.{Read, Reader, got, mapped, field, objective, objectiveBehind}
-use Rattle.reader.specs.Answers.{numberOf, fieldRead, setRead, inTheory, table}
-use Rattle.reader.specs.Tables.{fromOf, toOf, factTable}
-use Rattle.reader.proofs.ReaderLaws.{objective-none, objective-cut, objective-tag}
-use Rattle.reader.proofs.TableLaws.{trueAt, set-constant, set-fact, set-new, set-outside, set-not, set-two, first-refused, second-refused, tables-true}
+use Rattle.format.proofs.ReaderLaws.{objective-none, objective-cut, objective-tag}
+use Rattle.reader.proofs.EvaluationLaws.{trueAt, set-constant, set-fact, set-new, set-outside, set-not, set-two, first-refused, second-refused, read-true}
+use Rattle.reader.specs.Answers.{numberOf, setRead, inTheory, statesIn}
+use Rattle.reader.specs.Method.{fieldRead, fromOf, toOf, factStates}
 use borrow.Fn.Kinds.{In}
 use borrow.Fn.PlainCycle.{Measures, is, falls, and}
 use Rattle.reader.proofs.formula.evaluate.Reads as self
@@ -49,7 +49,7 @@ module _ (t : ℕ) where
   start c = c .before .before .before .before .before .before
 
   abbrev bytes : Told → List ℕ
-  bytes c = now (start c .args .s)
+  bytes c = now (start c .args .bytes)
 
   abbrev view : Told → View
   view c = start c .args .view
@@ -62,7 +62,7 @@ module _ (t : ℕ) where
 
   -- The formula's set, and its parts.
   abbrev value : Told → Read States
-  value c = let a = start c .args in mapped (table (a .view)) (objective (a .n) (inTheory (a .view)) (a .left) (now (a .s)) (a .at))
+  value c = let a = start c .args in mapped (statesIn (a .view)) (objective (a .n) (inTheory (a .view)) (a .left) (now (a .bytes)) (a .at))
 
   abbrev part : Told → Reader Objective
   part c = objective (start c .args .n) (inTheory (view c)) (start c .args .left - 1)
@@ -77,9 +77,9 @@ module _ (t : ℕ) where
   unfolding fieldRead
   whole c =
       let a = start c .args in
-      let read : field 3 (now (a .s)) (a .at) ≡ got (tag c) (next c) = sym (c .before .before .before .field-at .ensures) ∙ ap fieldRead (c .before .tag .given .1) in
-      ap (mapped (table (a .view))) (objective-tag (a .n) (inTheory (a .view)) (now (a .s)) (a .at) (a .left) (c .before .before .before .before .if1 .left) read)
-      ∙ tables-true (a .view) _
+      let read : field 3 (now (a .bytes)) (a .at) ≡ got (tag c) (next c) = sym (c .before .before .before .field-at .ensures) ∙ ap fieldRead (c .before .tag .given .1) in
+      ap (mapped (statesIn (a .view))) (objective-tag (a .n) (inTheory (a .view)) (now (a .bytes)) (a .at) (a .left) (c .before .before .before .before .if1 .left) read)
+      ∙ read-true (a .view) _
 
   -- The first part is evaluated.
   abbrev First : Type 0
@@ -90,13 +90,13 @@ module _ (t : ℕ) where
 
   first : (c : First) → sets (told c) (part (told c) (bytes (told c)) (next (told c))) ≡ got (c .before .a .given .0 .0) (c .before .a .given .0 .1 .0)
   unfolding setRead
-  first c = sym (tables-true (view (told c)) (part (told c) (bytes (told c)) (next (told c)))) ∙ sym (c .before .before .before .evaluate .ensures) ∙ ap setRead (c .before .a .given .1)
+  first c = sym (read-true (view (told c)) (part (told c) (bytes (told c)) (next (told c)))) ∙ sym (c .before .before .before .evaluate .ensures) ∙ ap setRead (c .before .a .given .1)
 
   returns : lts.Need-returns (calls t) (given t) self.Post
   unfolding setRead numberOf mapped
   returns c =
       let a = c .before .before .args in
-      sym (ap (mapped (table (a .view))) (objective-none (a .n) (inTheory (a .view)) (now (a .s)) (a .at) (a .left) (c .if1 .taken)))
+      sym (ap (mapped (statesIn (a .view))) (objective-none (a .n) (inTheory (a .view)) (now (a .bytes)) (a .at) (a .left) (c .if1 .taken)))
 
   field-at-requires : lts.Need-field-at-requires (calls t) (given t) self.Post
   field-at-requires c κs = search needs
@@ -120,7 +120,7 @@ module _ (t : ℕ) where
   evaluate-fact-requires c κs = search needs
 
   returns-3 : lts.Need-returns-3 (calls t) (given t) self.Post
-  unfolding setRead numberOf mapped factTable if_then_else_
+  unfolding setRead numberOf mapped factStates if_then_else_
   returns-3 c =
       let d = c .before .before .before in
       c .evaluate-fact .ensures ∙ sym (whole d ∙ set-fact (fromOf (view d)) (toOf (view d)) (start d .args .n) (inTheory (view d)) (part d) (bytes d) (next d) (tag d) (c .before .if3 .taken))
@@ -132,7 +132,7 @@ module _ (t : ℕ) where
   evaluate-fact-requires-2 c κs = search needs
 
   returns-4 : lts.Need-returns-4 (calls t) (given t) self.Post
-  unfolding setRead numberOf mapped factTable if_then_else_
+  unfolding setRead numberOf mapped factStates if_then_else_
   returns-4 c =
       let d = c .before .before .before .before .before .before in
       c .evaluate-fact2 .ensures ∙ sym (whole d ∙ set-new (fromOf (view d)) (toOf (view d)) (start d .args .n) (inTheory (view d)) (part d) (bytes d) (next d) (tag d) (c .before .before .before .if4 .taken) (sym (c .before .before .is-theory .ensures) ∙ c .before .if5 .taken))
@@ -185,13 +185,13 @@ module _ (t : ℕ) where
   returns-7 c =
       let a = c .before .before .before .before .before .args in
       let cut = sym (c .before .before .field-at .ensures) ∙ ap fieldRead (c .enum-told .given .1) in
-      sym (ap (mapped (table (a .view))) (objective-cut (a .n) (inTheory (a .view)) (now (a .s)) (a .at) (a .left) (c .before .before .before .if1 .left) cut))
+      sym (ap (mapped (statesIn (a .view))) (objective-cut (a .n) (inTheory (a .view)) (now (a .bytes)) (a .at) (a .left) (c .before .before .before .if1 .left) cut))
 
   returns-8 : lts.Need-returns-8 (calls t) (given t) self.Post
   unfolding setRead numberOf mapped
   returns-8 c =
       let d = c .before .before .before .before .before .before .before in
-      let none = sym (tables-true (view d) (part d (bytes d) (next d))) ∙ sym (c .before .before .before .evaluate .ensures) ∙ ap setRead (c .before .r .given .1) in
+      let none = sym (read-true (view d) (part d (bytes d) (next d))) ∙ sym (c .before .before .before .evaluate .ensures) ∙ ap setRead (c .before .r .given .1) in
       sym (whole d ∙ first-refused (fromOf (view d)) (toOf (view d)) (start d .args .n) (inTheory (view d)) (part d) (bytes d) (next d) (tag d) (omega (arith, c .before .before .before .before .if4 .left, c .before .before .before .before .before .if3 .left, c .before .before .before .before .before .before .if2 .left)) none)
 
   returns-9 : lts.Need-returns-9 (calls t) (given t) self.Post
@@ -199,7 +199,7 @@ module _ (t : ℕ) where
   returns-9 c =
       let f = c .before .before .before .before .before in
       let d = told f in
-      let none = sym (tables-true (view d) (part d (bytes d) (f .before .a .given .0 .1 .0))) ∙ sym (c .before .before .before .evaluate2 .ensures) ∙ ap setRead (c .before .r2 .given .1) in
+      let none = sym (read-true (view d) (part d (bytes d) (f .before .a .given .0 .1 .0))) ∙ sym (c .before .before .before .evaluate2 .ensures) ∙ ap setRead (c .before .r2 .given .1) in
       sym (whole d ∙ second-refused (fromOf (view d)) (toOf (view d)) (start d .args .n) (inTheory (view d)) (part d) (bytes d) (next d) (tag d) (omega (arith, c .before .before .before .before .if6 .left, f .before .before .before .before .if4 .left, f .before .before .before .before .before .if3 .left, f .before .before .before .before .before .before .if2 .left)) (first f) none)
 
   returns-10 : lts.Need-returns-10 (calls t) (given t) self.Post
@@ -207,7 +207,7 @@ module _ (t : ℕ) where
   returns-10 c =
       let f = c .before .before .before .before .before .before in
       let d = told f in
-      let second = sym (tables-true (view d) (part d (bytes d) (f .before .a .given .0 .1 .0))) ∙ sym (c .before .before .before .before .evaluate2 .ensures) ∙ ap setRead (c .before .before .b .given .1) in
+      let second = sym (read-true (view d) (part d (bytes d) (f .before .a .given .0 .1 .0))) ∙ sym (c .before .before .before .before .evaluate2 .ensures) ∙ ap setRead (c .before .before .b .given .1) in
       ap (λ (x : States). got x (c .before .before .b .given .0 .1 .0)) (c .join .ensures)
       ∙ sym (whole d ∙ set-two (fromOf (view d)) (toOf (view d)) (start d .args .n) (inTheory (view d)) (part d) (bytes d) (next d) (tag d) (omega (arith, c .before .before .before .before .before .if6 .left, f .before .before .before .before .if4 .left, f .before .before .before .before .before .if3 .left, f .before .before .before .before .before .before .if2 .left)) (first f) second)
 

@@ -1,10 +1,10 @@
 -- `reader::evaluate_fact` meets its contract: a fact number, and the fact's set in the view. Assumes nothing.
 use mathlib.Core.Path.{sym, ap, _∙_}
 use Rattle.format.specs.Format.{mapped}
-use Rattle.reader.specs.Answers.{fieldRead, setRead, numberOf}
-use Rattle.reader.specs.Tables.{factTable}
+use Rattle.format.proofs.ReaderLaws.{fact-cut, fact-in, fact-out}
+use Rattle.reader.specs.Answers.{setRead, numberOf}
+use Rattle.reader.specs.Method.{fieldRead, factStates}
 use Rattle.format.proofs.FormatLaws.{field-below}
-use Rattle.reader.proofs.ReaderLaws.{fact-cut, fact-in, fact-out}
 use borrow.Author.Needs.{needs}
 use Rattle.reader.proofs.formula.evaluate_fact.Statement.{statement}
 use Rattle.reader.proofs.formula.evaluate_fact.Tie as tie
@@ -23,27 +23,27 @@ unfolding fieldRead setRead numberOf mapped
 returns c =
     let a = c .before .before .before .before .before .before .args in
     let f = sym (c .before .before .before .before .field-at .ensures) ∙ ap fieldRead (c .before .before .i .given .1) in
-    sym (ap (mapped (factTable (a .fresh) (a .view))) (fact-out (a .n) (a .s .now) (a .at) f (search needs)))
+    sym (ap (mapped (factStates (a .fresh) (a .view))) (fact-out (a .n) (a .bytes .now) (a .at) f (search needs)))
 
 seen-requires : tie.Need-seen-requires
 unfolding fieldRead
 seen-requires c κs =
     let a = c .before .before .before .before .before .before .args in
-    field-below 3 (a .s .now) (a .at) _ _ (sym (c .before .before .before .before .field-at .ensures) ∙ ap fieldRead (c .before .before .i .given .1))
+    field-below 3 (a .bytes .now) (a .at) _ _ (sym (c .before .before .before .before .field-at .ensures) ∙ ap fieldRead (c .before .before .i .given .1))
 
 returns-2 : tie.Need-returns-2
 unfolding fieldRead setRead numberOf mapped
 returns-2 c =
     let a = c .before .before .before .before .args in
     let f = sym (c .before .before .field-at .ensures) ∙ ap fieldRead (c .enum-told .given .1) in
-    sym (ap (mapped (factTable (a .fresh) (a .view))) (fact-cut (a .n) (a .s .now) (a .at) f))
+    sym (ap (mapped (factStates (a .fresh) (a .view))) (fact-cut (a .n) (a .bytes .now) (a .at) f))
 
 returns-3 : tie.Need-returns-3
 unfolding fieldRead setRead numberOf mapped
 returns-3 c =
     let a = c .before .before .before .before .before .before .before .args in
     let f = sym (c .before .before .before .before .before .field-at .ensures) ∙ ap fieldRead (c .before .before .before .i .given .1) in
-    rw (c .seen .ensures) (sym (ap (mapped (factTable (a .fresh) (a .view))) (fact-in (a .n) (a .s .now) (a .at) f (search needs))))
+    rw (c .seen .ensures) (sym (ap (mapped (factStates (a .fresh) (a .view))) (fact-in (a .n) (a .bytes .now) (a .at) f (search needs))))
 
 pub evaluate-fact-spec : {M : Type 1} → statement M
 evaluate-fact-spec =

@@ -4,7 +4,7 @@ use Prim.Native.Nat.{ℕ}
 use borrow.Author.Tests.{ne-eqb}
 use Rattle.lists.specs.Lists.{if_then_else_}
 use Rattle.states.specs.Sets.{member, setOf}
-use Rattle.reader.specs.Tables.{joined}
+use Rattle.reader.specs.Method.{joined}
 use borrow.Author.Needs.{needs}
 use Rattle.reader.proofs.formula.join.Statement.{statement}
 use Rattle.reader.proofs.formula.join.Tie as tie

@@ -1,13 +1,15 @@
--- `reader::nodes::header` meets its contract: each return by the law of its case (proofs/NodeLaws.antt). Assumes nothing.
+-- `reader::nodes::header` meets its contract: each return by the law of its case (FieldLaws of `format`). Assumes nothing.
 use mathlib.Core.Path.{_≡_, sym, ap, _∙_}
 use native.Mathlib.Omega.{arith}
 use borrow.Author.Tests.{eq-eqb, ne-eqb}
 use Rattle.states.specs.declared.States.{States}
 use Rattle.format.specs.Truth.{inSpace}
 use Rattle.format.specs.Format.{got, mapped, isEdition, header}
-use Rattle.reader.specs.Answers.{numberOf, fieldRead}
-use Rattle.reader.specs.NodeAnswers.{spaced, headerOf, headerRead}
-use Rattle.reader.proofs.NodeLaws.{header-spaced, sheet-short, sheet-long, one-to-eight, below-one, above-eight, edition-cut, edition-out, facts-cut, facts-out, actions-cut, header-got}
+use Rattle.format.proofs.FieldLaws.{one-to-eight, below-one, above-eight, edition-cut, edition-out, facts-cut, facts-out, actions-cut, header-got}
+use Rattle.format.proofs.ReaderLaws.{sheet-short, sheet-long}
+use Rattle.reader.proofs.BodyLaws.{header-spaced}
+use Rattle.reader.specs.Answers.{numberOf, spaced, headerOf, headerRead}
+use Rattle.reader.specs.Method.{fieldRead}
 use borrow.Author.Needs.{needs}
 use Rattle.reader.proofs.nodes.header.Statement.{statement}
 use Rattle.reader.proofs.nodes.header.Tie as tie
@@ -19,7 +21,7 @@ use Rattle.states.proofs.States.all.Reads as all-reads
 returns : tie.Need-returns
 unfolding headerRead numberOf mapped
 returns c =
-    ap (mapped spaced) (sheet-long header _ _ (c .if1 .taken))
+    ap (mapped spaced) (sheet-long (header isEdition) _ _ (c .if1 .taken))
 
 field-at-requires : tie.Need-field-at-requires
 field-at-requires c κs = search needs
@@ -33,12 +35,12 @@ enum-told c = search needs
 returns-2 : tie.Need-returns-2
 unfolding headerRead numberOf fieldRead mapped
 returns-2 c =
-    ap (mapped spaced) (sheet-short header _ _ (omega arith) (edition-cut _ (sym (c .before .before .field-at .ensures) ∙ ap fieldRead (c .enum-told .given .1))))
+    ap (mapped spaced) (sheet-short (header isEdition) _ _ (omega arith) (edition-cut isEdition _ (sym (c .before .before .field-at .ensures) ∙ ap fieldRead (c .enum-told .given .1))))
 
 returns-3 : tie.Need-returns-3
 unfolding headerRead numberOf fieldRead isEdition mapped
 returns-3 c =
-    ap (mapped spaced) (sheet-short header _ _ (omega arith) (edition-out _ (sym (c .before .before .before .before .field-at .ensures) ∙ ap fieldRead (c .before .before .edition .given .1)) (ne-eqb _ 1 (c .if2 .taken))))
+    ap (mapped spaced) (sheet-short (header isEdition) _ _ (omega arith) (edition-out isEdition _ (sym (c .before .before .before .before .field-at .ensures) ∙ ap fieldRead (c .before .before .edition .given .1)) (ne-eqb _ 1 (c .if2 .taken))))
 
 field-at-requires-2 : tie.Need-field-at-requires-2
 field-at-requires-2 c κs = search needs
@@ -52,17 +54,17 @@ enum-told-2 c = search needs
 returns-4 : tie.Need-returns-4
 unfolding headerRead numberOf fieldRead isEdition mapped
 returns-4 c =
-    ap (mapped spaced) (sheet-short header _ _ (omega arith) (facts-cut _ (sym (c .before .before .before .before .before .before .before .field-at .ensures) ∙ ap fieldRead (c .before .before .before .before .before .edition .given .1)) (eq-eqb _ 1 (c .before .before .before .if2 .left)) (sym (c .before .before .field-at2 .ensures) ∙ ap fieldRead (c .enum-told2 .given .1))))
+    ap (mapped spaced) (sheet-short (header isEdition) _ _ (omega arith) (facts-cut isEdition _ (sym (c .before .before .before .before .before .before .before .field-at .ensures) ∙ ap fieldRead (c .before .before .before .before .before .edition .given .1)) (eq-eqb _ 1 (c .before .before .before .if2 .left)) (sym (c .before .before .field-at2 .ensures) ∙ ap fieldRead (c .enum-told2 .given .1))))
 
 returns-5 : tie.Need-returns-5
 unfolding headerRead numberOf fieldRead isEdition mapped
 returns-5 c =
-    ap (mapped spaced) (sheet-short header _ _ (omega arith) (facts-out _ (sym (c .before .before .before .before .before .before .before .before .before .field-at .ensures) ∙ ap fieldRead (c .before .before .before .before .before .before .before .edition .given .1)) (eq-eqb _ 1 (c .before .before .before .before .before .if2 .left)) (sym (c .before .before .before .before .field-at2 .ensures) ∙ ap fieldRead (c .before .before .n .given .1)) (below-one _ (c .if3 .taken))))
+    ap (mapped spaced) (sheet-short (header isEdition) _ _ (omega arith) (facts-out isEdition _ (sym (c .before .before .before .before .before .before .before .before .before .field-at .ensures) ∙ ap fieldRead (c .before .before .before .before .before .before .before .edition .given .1)) (eq-eqb _ 1 (c .before .before .before .before .before .if2 .left)) (sym (c .before .before .before .before .field-at2 .ensures) ∙ ap fieldRead (c .before .before .n .given .1)) (below-one _ (c .if3 .taken))))
 
 returns-6 : tie.Need-returns-6
 unfolding headerRead numberOf fieldRead isEdition mapped
 returns-6 c =
-    ap (mapped spaced) (sheet-short header _ _ (omega arith) (facts-out _ (sym (c .before .before .before .before .before .before .before .before .before .before .field-at .ensures) ∙ ap fieldRead (c .before .before .before .before .before .before .before .before .edition .given .1)) (eq-eqb _ 1 (c .before .before .before .before .before .before .if2 .left)) (sym (c .before .before .before .before .before .field-at2 .ensures) ∙ ap fieldRead (c .before .before .before .n .given .1)) (above-eight _ (c .if4 .taken))))
+    ap (mapped spaced) (sheet-short (header isEdition) _ _ (omega arith) (facts-out isEdition _ (sym (c .before .before .before .before .before .before .before .before .before .before .field-at .ensures) ∙ ap fieldRead (c .before .before .before .before .before .before .before .before .edition .given .1)) (eq-eqb _ 1 (c .before .before .before .before .before .before .if2 .left)) (sym (c .before .before .before .before .before .field-at2 .ensures) ∙ ap fieldRead (c .before .before .before .n .given .1)) (above-eight _ (c .if4 .taken))))
 
 field-at-requires-3 : tie.Need-field-at-requires-3
 field-at-requires-3 c κs = search needs
@@ -76,7 +78,7 @@ enum-told-3 c = search needs
 returns-7 : tie.Need-returns-7
 unfolding headerRead numberOf fieldRead isEdition mapped
 returns-7 c =
-    ap (mapped spaced) (sheet-short header _ _ (omega arith) (actions-cut _ (sym (c .before .before .before .before .before .before .before .before .before .before .before .before .before .field-at .ensures) ∙ ap fieldRead (c .before .before .before .before .before .before .before .before .before .before .before .edition .given .1)) (eq-eqb _ 1 (c .before .before .before .before .before .before .before .before .before .if2 .left)) (sym (c .before .before .before .before .before .before .before .before .field-at2 .ensures) ∙ ap fieldRead (c .before .before .before .before .before .before .n .given .1)) (one-to-eight _ (c .before .before .before .before .if3 .left) (c .before .before .before .if4 .left)) (sym (c .before .before .field-at3 .ensures) ∙ ap fieldRead (c .enum-told3 .given .1))))
+    ap (mapped spaced) (sheet-short (header isEdition) _ _ (omega arith) (actions-cut isEdition _ (sym (c .before .before .before .before .before .before .before .before .before .before .before .before .before .field-at .ensures) ∙ ap fieldRead (c .before .before .before .before .before .before .before .before .before .before .before .edition .given .1)) (eq-eqb _ 1 (c .before .before .before .before .before .before .before .before .before .if2 .left)) (sym (c .before .before .before .before .before .before .before .before .field-at2 .ensures) ∙ ap fieldRead (c .before .before .before .before .before .before .n .given .1)) (one-to-eight _ (c .before .before .before .before .if3 .left) (c .before .before .before .if4 .left)) (sym (c .before .before .field-at3 .ensures) ∙ ap fieldRead (c .enum-told3 .given .1))))
 
 all-requires : tie.Need-all-requires
 all-requires c κs = search needs
@@ -84,7 +86,7 @@ all-requires c κs = search needs
 returns-8 : tie.Need-returns-8
 unfolding headerRead headerOf spaced fieldRead isEdition inSpace mapped
 returns-8 c =
-    header-spaced _ _ _ _ (c .all .ensures) (sheet-short header _ _ (omega arith) (header-got _ (sym (c .before .before .before .before .before .before .before .before .before .before .before .before .before .before .before .field-at .ensures) ∙ ap fieldRead (c .before .before .before .before .before .before .before .before .before .before .before .before .before .edition .given .1)) (eq-eqb _ 1 (c .before .before .before .before .before .before .before .before .before .before .before .if2 .left)) (sym (c .before .before .before .before .before .before .before .before .before .before .field-at2 .ensures) ∙ ap fieldRead (c .before .before .before .before .before .before .before .before .n .given .1)) (one-to-eight _ (c .before .before .before .before .before .before .if3 .left) (c .before .before .before .before .before .if4 .left)) (sym (c .before .before .before .before .field-at3 .ensures) ∙ ap fieldRead (c .before .before .k .given .1))))
+    header-spaced _ _ _ _ (c .all .ensures) (sheet-short (header isEdition) _ _ (omega arith) (header-got isEdition _ (sym (c .before .before .before .before .before .before .before .before .before .before .before .before .before .before .before .field-at .ensures) ∙ ap fieldRead (c .before .before .before .before .before .before .before .before .before .before .before .before .before .edition .given .1)) (eq-eqb _ 1 (c .before .before .before .before .before .before .before .before .before .before .before .if2 .left)) (sym (c .before .before .before .before .before .before .before .before .before .before .field-at2 .ensures) ∙ ap fieldRead (c .before .before .before .before .before .before .before .before .n .given .1)) (one-to-eight _ (c .before .before .before .before .before .before .if3 .left) (c .before .before .before .before .before .if4 .left)) (sym (c .before .before .before .before .field-at3 .ensures) ∙ ap fieldRead (c .before .before .k .given .1))))
 
 pub header-spec : {M : Type 1} → statement M
 header-spec =

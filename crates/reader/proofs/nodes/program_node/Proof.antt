@@ -1,28 +1,27 @@
 -- `reader::nodes::program_node` meets its contract. Assumes nothing.
 use mathlib.Core.Path.{sym}
 use native.Mathlib.Omega.{arith}
-use Rattle.format.specs.Format.{programHead}
-use Rattle.reader.specs.Answers.{numberOf}
-use Rattle.reader.specs.NodeAnswers.{programNodeRead}
-use Rattle.reader.proofs.NodeLaws.{sheet-short, sheet-long}
+use Rattle.format.specs.Format.{programNode}
+use Rattle.format.proofs.ReaderLaws.{sheet-short, sheet-long}
+use Rattle.reader.specs.Answers.{numberOf, programNodeRead}
 use borrow.Author.Needs.{needs}
 use Rattle.reader.proofs.nodes.program_node.Statement.{statement}
 use Rattle.reader.proofs.nodes.program_node.Tie as tie
 use Rattle.reader.proofs.nodes.program_node.Reads as reads
 use Rattle.reader.proofs.nodes.program_node.Lts as lts
-use Rattle.reader.proofs.nodes.first_node.Reads as first-node-reads
+use Rattle.reader.proofs.nodes.program_at.Reads as program-at-reads
 
 returns : tie.Need-returns
 unfolding programNodeRead numberOf
 returns c =
-    sheet-long (programHead 0 0) _ _ (c .if1 .taken)
+    sheet-long (programNode 0 0) _ _ (c .if1 .taken)
 
-first-node-requires : tie.Need-first-node-requires
-first-node-requires c κs = search needs
+program-at-requires : tie.Need-program-at-requires
+program-at-requires c κs = search needs
 
 returns-2 : tie.Need-returns-2
 returns-2 c =
-    sheet-short (programHead 0 0) _ _ (omega arith) (sym (c .first-node .ensures))
+    sheet-short (programNode 0 0) _ _ (omega arith) (sym (c .program-at .ensures))
 
 pub program-node-spec : {M : Type 1} → statement M
-program-node-spec = tie.close (tie.spec returns first-node-requires returns-2)
+program-node-spec = tie.close (tie.spec returns program-at-requires returns-2)

@@ -2,7 +2,7 @@
 use mathlib.Core.Path.{sym, ap, _∙_}
 use Prim.Native.Nat.{ℕ}
 use lib.Dec.{eqb}
-use Rattle.reader.proofs.StageLaws.{padding-none, padding-few, padding-many}
+use Rattle.reader.proofs.BodyLaws.{padding-none, padding-few, padding-many}
 use borrow.Author.Needs.{needs}
 use Rattle.reader.proofs.sheet.is_padding.Statement.{statement}
 use Rattle.reader.proofs.sheet.is_padding.Tie as tie

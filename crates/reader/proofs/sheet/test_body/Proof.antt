@@ -1,14 +1,17 @@
--- `reader::sheet::test_body` meets its contract: the tests behind the fields, by what each tells (proofs/StageLaws.antt). Assumes nothing.
-use Prim.Native.Nat.{ℕ}
+-- `reader::sheet::test_body` meets its contract: the tests behind the fields, by what each tells (proofs/BodyLaws.antt). Assumes nothing.
 use mathlib.Core.Path.{_≡_, sym, ap, _∙_}
+use mathlib.Core.List.{flatMap}
 use mathlib.Core.Bool.{_&&_}
+use denote.Ref.{now}
 use borrow.Author.Tests.{not-true, not-false}
 use Rattle.states.specs.declared.States.{States}
 use Rattle.states.specs.Sets.{member, setOf, members}
-use Rattle.reader.specs.Answers.{numberOf, answerOf, endRead}
-use Rattle.reader.specs.NodeAnswers.{headerOf}
-use Rattle.reader.specs.Stages.{testedList}
-use Rattle.reader.proofs.StageLaws.{unpadded, startless, action-fails, actions-pass, size-few, below-size}
+use Rattle.format.specs.Truth.{inSpace}
+use Rattle.format.specs.Format.{actionFaults, decided}
+use Rattle.reader.specs.Answers.{numberOf, answerOf, withoutValue, headerOf}
+use Rattle.reader.specs.Method.{passedTo}
+use Rattle.reader.specs.declared.formula.Walked.{Walked}
+use Rattle.reader.proofs.BodyLaws.{unpadded, startless, actions-tested}
 use borrow.Author.Needs.{needs}
 use Rattle.reader.proofs.sheet.test_body.Statement.{statement}
 use Rattle.reader.proofs.sheet.test_body.Tie as tie
@@ -23,7 +26,7 @@ is-padding-requires c κs = search needs
 returns : tie.Need-returns
 unfolding answerOf numberOf headerOf
 returns c =
-    λ sheet e u. sym (unpadded (headerOf (c .before .before .before .args .h)) (c .before .before .before .pre .1) (c .before .before .before .args .s .now) (c .before .before .before .args .h .at) sheet _ e (sym (c .before .is-padding .ensures) ∙ not-true _ (c .if1 .taken)))
+    λ sheet e u. sym (unpadded (headerOf (c .before .before .before .args .h)) (c .before .before .before .pre .1) (c .before .before .before .args .bytes .now) (c .before .before .before .args .h .at) sheet _ e (sym (c .before .is-padding .ensures) ∙ not-true _ (c .if1 .taken)))
 
 intersect-requires : tie.Need-intersect-requires
 intersect-requires c κs = search needs
@@ -34,14 +37,10 @@ is-empty-requires c κs = search needs
 returns-2 : tie.Need-returns-2
 unfolding answerOf numberOf headerOf
 returns-2 c =
-    λ sheet e u. sym (startless (headerOf (c .before .before .before .before .before .before .before .args .h)) (c .before .before .before .before .before .before .before .pre .1) (c .before .before .before .before .before .before .before .args .s .now) (c .before .before .before .before .before .before .before .args .h .at) sheet _ e (sym (c .before .before .before .before .before .is-padding .ensures) ∙ not-false _ (c .before .before .before .before .if1 .left)) (common-is _ _ (c .before .before .intersect .ensures) u (c .before .before .before .before .before .before .before .pre .2)) (not-true _ (sym (c .before .is-empty .ensures) ∙ c .if2 .taken)))
-
-size-of-requires : tie.Need-size-of-requires
-size-of-requires c κs = search needs
+    λ sheet e u. sym (startless (headerOf (c .before .before .before .before .before .before .before .args .h)) (c .before .before .before .before .before .before .before .pre .1) (c .before .before .before .before .before .before .before .args .bytes .now) (c .before .before .before .before .before .before .before .args .h .at) sheet _ e (sym (c .before .before .before .before .before .is-padding .ensures) ∙ not-false _ (c .before .before .before .before .if1 .left)) (common-is _ _ (c .before .before .intersect .ensures) u (c .before .before .before .before .before .before .before .pre .2)) (not-true _ (sym (c .before .is-empty .ensures) ∙ c .if2 .taken)))
 
 test-actions-requires : tie.Need-test-actions-requires
-test-actions-requires c κs =
-    (search needs, rw (c .size-of .ensures) (size-few (c .before .before .before .before .before .before .before .before .args .h .facts)), λ t m. rw (c .size-of .ensures) (below-size (c .before .before .before .before .before .before .before .before .args .h .facts) t (ap (λ (x : States). member x t) (sym (c .before .before .before .before .before .before .before .before .pre .2)) ∙ m)))
+test-actions-requires c κs = search needs
 
 enum-known-r : tie.Need-enum-known-r
 enum-known-r c = search needs
@@ -50,18 +49,28 @@ enum-known-next : tie.Need-enum-known-next
 enum-known-next c = search needs
 
 returns-3 : tie.Need-returns-3
-unfolding answerOf endRead headerOf
-returns-3 c =
-    λ sheet e u.
-    let tests = sym (c .before .before .before .test-actions .ensures ∙ ap (λ (x : States). testedList (members x) (c .before .before .before .before .before .before .before .before .before .before .before .before .args .h .facts) (c .before .before .before .before .before .before .before .before .before .before .before .before .args .h .actions) (c .before .before .before .before .before .before .before .before .before .before .before .before .args .s .now) (c .before .before .before .before .before .before .before .before .before .before .before .before .args .h .at)) (c .before .before .before .before .before .before .before .before .before .before .before .before .pre .2)) ∙ ap endRead (c .before .r .given .1) in
-    sym (action-fails (headerOf (c .before .before .before .before .before .before .before .before .before .before .before .before .args .h)) (c .before .before .before .before .before .before .before .before .before .before .before .before .pre .1) (c .before .before .before .before .before .before .before .before .before .before .before .before .args .s .now) (c .before .before .before .before .before .before .before .before .before .before .before .before .args .h .at) sheet _ e (sym (c .before .before .before .before .before .before .before .before .before .before .is-padding .ensures) ∙ not-false _ (c .before .before .before .before .before .before .before .before .before .if1 .left)) (common-is _ _ (c .before .before .before .before .before .before .before .intersect .ensures) u (c .before .before .before .before .before .before .before .before .before .before .before .before .pre .2)) (not-false _ (sym (c .before .before .before .before .before .before .is-empty .ensures) ∙ c .before .before .before .before .before .if2 .left)) tests)
+unfolding answerOf withoutValue passedTo headerOf
+returns-3 c = λ sheet e u.
+    let b = c .before .before .before .before .before .before .before .before .before .before .before in
+    let a = b .args in
+    let space : setOf (inSpace (a .h .facts)) ≡ a .h .space = sym (b .pre .2) in
+    let padded = sym (c .before .before .before .before .before .before .before .before .before .is-padding .ensures) ∙ not-false _ (c .before .before .before .before .before .before .before .before .if1 .left) in
+    let some = not-false _ (sym (c .before .before .before .before .before .is-empty .ensures) ∙ c .before .before .before .before .if2 .left) in
+    ap (λ (x : Walked). withoutValue (passedTo x)) (sym (c .before .r .given .1))
+    ∙ actions-tested (headerOf (a .h)) (b .pre .1) (now (a .bytes)) (a .h .at) sheet _ e padded (common-is _ _ (c .before .before .before .before .before .before .intersect .ensures) u (b .pre .2)) some (c .before .before .before .test-actions .result)
+    (λ actions end k. c .before .before .before .test-actions .ensures actions end k ∙ ap (λ (x : States). decided (flatMap (actionFaults (members x)) actions) end) (sym space))
 
 returns-4 : tie.Need-returns-4
-unfolding answerOf endRead headerOf
-returns-4 c =
-    λ sheet e u.
-    let tests = sym (c .before .before .before .test-actions .ensures ∙ ap (λ (x : States). testedList (members x) (c .before .before .before .before .before .before .before .before .before .before .before .before .args .h .facts) (c .before .before .before .before .before .before .before .before .before .before .before .before .args .h .actions) (c .before .before .before .before .before .before .before .before .before .before .before .before .args .s .now) (c .before .before .before .before .before .before .before .before .before .before .before .before .args .h .at)) (c .before .before .before .before .before .before .before .before .before .before .before .before .pre .2)) ∙ ap endRead (c .before .next .given .1) in
-    sym (actions-pass (headerOf (c .before .before .before .before .before .before .before .before .before .before .before .before .args .h)) (c .before .before .before .before .before .before .before .before .before .before .before .before .pre .1) (c .before .before .before .before .before .before .before .before .before .before .before .before .args .s .now) (c .before .before .before .before .before .before .before .before .before .before .before .before .args .h .at) sheet _ e (sym (c .before .before .before .before .before .before .before .before .before .before .is-padding .ensures) ∙ not-false _ (c .before .before .before .before .before .before .before .before .before .if1 .left)) (common-is _ _ (c .before .before .before .before .before .before .before .intersect .ensures) u (c .before .before .before .before .before .before .before .before .before .before .before .before .pre .2)) (not-false _ (sym (c .before .before .before .before .before .before .is-empty .ensures) ∙ c .before .before .before .before .before .if2 .left)) tests)
+unfolding answerOf withoutValue passedTo headerOf
+returns-4 c = λ sheet e u.
+    let b = c .before .before .before .before .before .before .before .before .before .before .before in
+    let a = b .args in
+    let space : setOf (inSpace (a .h .facts)) ≡ a .h .space = sym (b .pre .2) in
+    let padded = sym (c .before .before .before .before .before .before .before .before .before .is-padding .ensures) ∙ not-false _ (c .before .before .before .before .before .before .before .before .if1 .left) in
+    let some = not-false _ (sym (c .before .before .before .before .before .is-empty .ensures) ∙ c .before .before .before .before .if2 .left) in
+    ap (λ (x : Walked). withoutValue (passedTo x)) (sym (c .before .next .given .1))
+    ∙ actions-tested (headerOf (a .h)) (b .pre .1) (now (a .bytes)) (a .h .at) sheet _ e padded (common-is _ _ (c .before .before .before .before .before .before .intersect .ensures) u (b .pre .2)) some (c .before .before .before .test-actions .result)
+    (λ actions end k. c .before .before .before .test-actions .ensures actions end k ∙ ap (λ (x : States). decided (flatMap (actionFaults (members x)) actions) end) (sym space))
 
 pub test-body-spec : {M : Type 1} → statement M
-test-body-spec = tie.close (tie.spec is-padding-requires returns intersect-requires is-empty-requires returns-2 size-of-requires test-actions-requires enum-known-r enum-known-next returns-3 returns-4)
+test-body-spec = tie.close (tie.spec is-padding-requires returns intersect-requires is-empty-requires returns-2 test-actions-requires enum-known-r enum-known-next returns-3 returns-4)

@@ -5,7 +5,7 @@ use mathlib.Core.List.{List}
 use native.Mathlib.Omega.{arith}
 use lib.ListN.{length}
 use Rattle.format.specs.Syntax.{Action}
-use Rattle.reader.specs.Standing.{ActionsAt}
+use Rattle.format.specs.Standing.{ActionsAt}
 use Rattle.routine.proofs.ActionLaws.{ActionsLeft, actions-first, actions-here, actions-last}
 use Rattle.routine.proofs.actions.fill_actions.Statement.{statement}
 use Rattle.routine.proofs.actions.fill_actions.Tie as tie

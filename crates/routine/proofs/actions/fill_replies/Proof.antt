@@ -6,8 +6,8 @@ use mathlib.Core.List.{List}
 use native.Mathlib.Omega.{arith}
 use lib.ListN.{length}
 use Rattle.format.specs.Syntax.{Objective}
+use Rattle.format.specs.Standing.{RepliesAt}
 use Rattle.reader.specs.Answers.{inTheory}
-use Rattle.reader.specs.Standing.{RepliesAt}
 use Rattle.routine.proofs.EvaluatedLaws.{found, never-refused}
 use Rattle.routine.proofs.ActionLaws.{RepliesLeft, replies-first, replies-here, replies-last}
 use Rattle.routine.proofs.actions.fill_replies.Statement.{statement}

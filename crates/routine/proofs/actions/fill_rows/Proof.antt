@@ -6,7 +6,7 @@ use mathlib.Core.Bool.{true}
 use native.Mathlib.Omega.{arith}
 use Rattle.states.specs.Sets.{member}
 use Rattle.format.specs.Syntax.{Objective, change}
-use Rattle.reader.specs.Standing.{ObjectiveAt}
+use Rattle.format.specs.Standing.{ObjectiveAt}
 use Rattle.routine.specs.Memory.{write, words}
 use Rattle.routine.specs.Tables.{rows}
 use Rattle.routine.proofs.ActionLaws.{rowOf, rowsFrom, rows-first, rows-next, rows-last}

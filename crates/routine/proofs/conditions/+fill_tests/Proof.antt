@@ -8,7 +8,7 @@ use borrow.Fn.PlainCycle.{Measures, is, falls, and}
 use denote.Ref.{now}
 use Rattle.format.specs.Syntax.{Epistemic, known, not-known, all-of, any-of}
 use Rattle.format.specs.Format.{got, epistemic}
-use Rattle.reader.specs.NodeAnswers.{epistemicNodeRead}
+use Rattle.reader.specs.Answers.{epistemicNodeRead}
 use Rattle.routine.proofs.ConditionLaws.{AtomAt, PairAt, formula-parts, atom-room, first-formula, second-fits, second-room, first-fits, first-room-all, first-room-any, laid-known, laid-not-known, laid-all-of, laid-any-of}
 use Rattle.routine.proofs.conditions.fill_tests.Reads as self
 use Rattle.routine.proofs.conditions.fill_tests.Kinds as kinds
@@ -37,51 +37,51 @@ module _ (t : ℕ) where
 
   -- A formula is read at the start, to its end.
   abbrev Whole : Start → (f : Epistemic) (q : ℕ) → Type 0
-  Whole c f q = epistemic (c .args .n) (c .args .left) (now (c .args .s)) (c .args .at) ≡ got f q
+  Whole c f q = epistemic (c .args .n) (c .args .left) (now (c .args .bytes)) (c .args .at) ≡ got f q
 
   -- The formula's first node is read.
   abbrev Known : Type 0
   Known = lts.After-known-told2 (calls t) (given t) self.Post
 
   known-at : (c : Known) (f : Epistemic) (q : ℕ) → let d = c .before .before .before .before .before in Whole d f q
-      → AtomAt (now (d .args .s)) (d .args .n) (d .args .left) known f (c .before .p .given .0 .0) q
+      → AtomAt (now (d .args .bytes)) (d .args .n) (d .args .left) known f (c .before .p .given .0 .0) q
   unfolding epistemicNodeRead
   known-at c =
       let d = c .before .before .before .before .before in
-      formula-parts (now (d .args .s)) (d .args .n) (d .args .left) (d .args .at) (d .pre .1 .0) (d .pre .1 .1 .levels)
+      formula-parts (now (d .args .bytes)) (d .args .n) (d .args .left) (d .args .at) (d .pre .1 .0) (d .pre .1 .1 .levels)
       (sym (ap epistemicNodeRead (c .before .p .given .1)) ∙ c .before .before .before .epistemic-node .ensures)
 
   abbrev NotKnown : Type 0
   NotKnown = lts.After-known-told3 (calls t) (given t) self.Post
 
   not-known-at : (c : NotKnown) (f : Epistemic) (q : ℕ) → let d = c .before .before .before .before .before in Whole d f q
-      → AtomAt (now (d .args .s)) (d .args .n) (d .args .left) not-known f (c .before .p2 .given .0 .0) q
+      → AtomAt (now (d .args .bytes)) (d .args .n) (d .args .left) not-known f (c .before .p2 .given .0 .0) q
   unfolding epistemicNodeRead
   not-known-at c =
       let d = c .before .before .before .before .before in
-      formula-parts (now (d .args .s)) (d .args .n) (d .args .left) (d .args .at) (d .pre .1 .0) (d .pre .1 .1 .levels)
+      formula-parts (now (d .args .bytes)) (d .args .n) (d .args .left) (d .args .at) (d .pre .1 .0) (d .pre .1 .1 .levels)
       (sym (ap epistemicNodeRead (c .before .p2 .given .1)) ∙ c .before .before .before .epistemic-node .ensures)
 
   abbrev AllOf : Type 0
   AllOf = lts.After-known-told4 (calls t) (given t) self.Post
 
   all-of-at : (c : AllOf) (f : Epistemic) (q : ℕ) → let d = c .before .before .before .before .before in Whole d f q
-      → PairAt (now (d .args .s)) (d .args .n) (d .args .left) all-of f (c .before .p3 .given .0 .0) q
+      → PairAt (now (d .args .bytes)) (d .args .n) (d .args .left) all-of f (c .before .p3 .given .0 .0) q
   unfolding epistemicNodeRead
   all-of-at c =
       let d = c .before .before .before .before .before in
-      formula-parts (now (d .args .s)) (d .args .n) (d .args .left) (d .args .at) (d .pre .1 .0) (d .pre .1 .1 .levels)
+      formula-parts (now (d .args .bytes)) (d .args .n) (d .args .left) (d .args .at) (d .pre .1 .0) (d .pre .1 .1 .levels)
       (sym (ap epistemicNodeRead (c .before .p3 .given .1)) ∙ c .before .before .before .epistemic-node .ensures)
 
   abbrev AnyOf : Type 0
   AnyOf = lts.After-known-told5 (calls t) (given t) self.Post
 
   any-of-at : (c : AnyOf) (f : Epistemic) (q : ℕ) → let d = c .before .before .before .before .before in Whole d f q
-      → PairAt (now (d .args .s)) (d .args .n) (d .args .left) any-of f (c .before .p4 .given .0 .0) q
+      → PairAt (now (d .args .bytes)) (d .args .n) (d .args .left) any-of f (c .before .p4 .given .0 .0) q
   unfolding epistemicNodeRead
   any-of-at c =
       let d = c .before .before .before .before .before in
-      formula-parts (now (d .args .s)) (d .args .n) (d .args .left) (d .args .at) (d .pre .1 .0) (d .pre .1 .1 .levels)
+      formula-parts (now (d .args .bytes)) (d .args .n) (d .args .left) (d .args .at) (d .pre .1 .0) (d .pre .1 .1 .levels)
       (sym (ap epistemicNodeRead (c .before .p4 .given .1)) ∙ c .before .before .before .epistemic-node .ensures)
 
   epistemic-node-requires : lts.Need-epistemic-node-requires (calls t) (given t) self.Post
@@ -238,7 +238,7 @@ module _ (t : ℕ) where
   unfolding epistemicNodeRead
   returns c =
       let d = c .before .before .before .before .before in
-      absurd (formula-parts (now (d .args .s)) (d .args .n) (d .args .left) (d .args .at) (d .pre .1 .0) (d .pre .1 .1 .levels)
+      absurd (formula-parts (now (d .args .bytes)) (d .args .n) (d .args .left) (d .args .at) (d .pre .1 .0) (d .pre .1 .1 .levels)
       (sym (ap epistemicNodeRead (c .before .r .given .1)) ∙ c .before .before .before .epistemic-node .ensures) (d .pre .1 .1 .formula) (d .pre .1 .1 .next) (d .pre .1 .1 .read))
 
   returns-2 : lts.Need-returns-2 (calls t) (given t) self.Post

@@ -7,7 +7,7 @@ use denote.Ref.{now}
 use Rattle.states.specs.declared.States.{States}
 use Rattle.reader.specs.Answers.{inTheory}
 use Rattle.routine.specs.Memory.{write, words, Small}
-use Rattle.routine.proofs.EvaluatedLaws.{found, never-refused, table-holds}
+use Rattle.routine.proofs.EvaluatedLaws.{found, never-refused, states-hold}
 use Rattle.routine.proofs.conditions.fill_atom.Statement.{statement}
 use Rattle.routine.proofs.conditions.fill_atom.Tie as tie
 
@@ -40,7 +40,7 @@ returns-2 c = λ f q h.
     let is = found _ _ _ _ _ (d .pre .0) (c .before .before .before .before .before .before .before .objective-states .ensures) (c .before .before .before .before .before .set .given .1) f q h in (
       ap (λ e. record { atoms = 1; at = e }) (is .1),
       c .before .before .put-node .ensures,
-      c .put-set .ensures ∙ ap (λ (set : States). write (now (d .args .sets)) (4 * d .args .k) (words set)) (is .0 ∙ table-holds f),
+      c .put-set .ensures ∙ ap (λ (set : States). write (now (d .args .sets)) (4 * d .args .k) (words set)) (is .0 ∙ states-hold f),
     )
 
 pub fill-atom-spec : {M : Type 1} → statement M

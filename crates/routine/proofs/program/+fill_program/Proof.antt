@@ -8,8 +8,8 @@ use borrow.Fn.PlainCycle.{Measures, is, falls, and}
 use denote.Ref.{now}
 use lib.ListN.{length}
 use Rattle.format.specs.Syntax.{Program}
-use Rattle.reader.specs.Standing.{ProgramAt}
-use Rattle.reader.specs.NodeAnswers.{programNodeRead}
+use Rattle.format.specs.Standing.{ProgramAt}
+use Rattle.reader.specs.Answers.{programNodeRead}
 use Rattle.routine.proofs.ProgramLaws.{ActAt, ForkAt, program-parts, laid-end, act-room, act-small, rest-later, rest-room, laid-act, condition-formula, then-fits, then-later, then-room, jump-fits, tests-room, else-later, else-room, skip-fits, jump-small, last-later, last-room, laid-branch}
 use Rattle.routine.proofs.program.fill_program.Reads as self
 use Rattle.routine.proofs.program.fill_program.Kinds as kinds
@@ -39,29 +39,29 @@ module _ (t : ℕ) where
 
   -- A program stands at the start, to its end.
   abbrev Whole : Start → (x : Program) (q : ℕ) → Type 0
-  Whole c x q = ProgramAt (now (c .args .s)) (c .args .n) x (c .args .at) q
+  Whole c x q = ProgramAt (now (c .args .bytes)) (c .args .n) x (c .args .at) q
 
   -- The program's first node is read.
   abbrev Act : Type 0
   Act = lts.After-known-told3 (calls t) (given t) self.Post
 
   act-at : (c : Act) (x : Program) (q : ℕ) → let d = c .before .before .before .before .before in Whole d x q
-      → ActAt (now (d .args .s)) (d .args .n) (d .args .at) (c .before .a .given .0 .0) x (c .before .a .given .0 .1 .0) q
+      → ActAt (now (d .args .bytes)) (d .args .n) (d .args .at) (c .before .a .given .0 .0) x (c .before .a .given .0 .1 .0) q
   unfolding programNodeRead
   act-at c =
       let d = c .before .before .before .before .before in
-      program-parts (now (d .args .s)) (d .args .n) (d .args .at) (d .pre .1 .0)
+      program-parts (now (d .args .bytes)) (d .args .n) (d .args .at) (d .pre .1 .0)
       (sym (ap programNodeRead (c .before .a .given .1)) ∙ c .before .before .before .program-node .ensures)
 
   abbrev Fork : Type 0
   Fork = lts.After-known-told4 (calls t) (given t) self.Post
 
   fork-at : (c : Fork) (x : Program) (q : ℕ) → let d = c .before .before .before .before .before in Whole d x q
-      → ForkAt (now (d .args .s)) (d .args .n) (d .args .at) x (c .before .p2 .given .0 .0) q
+      → ForkAt (now (d .args .bytes)) (d .args .n) (d .args .at) x (c .before .p2 .given .0 .0) q
   unfolding programNodeRead
   fork-at c =
       let d = c .before .before .before .before .before in
-      program-parts (now (d .args .s)) (d .args .n) (d .args .at) (d .pre .1 .0)
+      program-parts (now (d .args .bytes)) (d .args .n) (d .args .at) (d .pre .1 .0)
       (sym (ap programNodeRead (c .before .p2 .given .1)) ∙ c .before .before .before .program-node .ensures)
 
   program-node-requires : lts.Need-program-node-requires (calls t) (given t) self.Post
@@ -92,7 +92,7 @@ module _ (t : ℕ) where
   fill-program-requires c κs =
       let d = c .before .before .before .before .before .before .before .before .before in
       let h = act-at (c .before .before .before .before) (d .pre .1 .1 .program) (d .pre .1 .1 .next) (d .pre .1 .1 .stands) in
-      (omega (arith, d .pre .0, rest-later (now (d .args .s)) (d .args .n) (d .args .at) (d .args .base) (d .args .k) h), (d .pre .1 .0, rest-room _ _ _ _ _ (d .pre .1 .1) h))
+      (omega (arith, d .pre .0, rest-later (now (d .args .bytes)) (d .args .n) (d .args .at) (d .args .base) (d .args .k) h), (d .pre .1 .0, rest-room _ _ _ _ _ (d .pre .1 .1) h))
 
   enum-known-p-2 : lts.Need-enum-known-p-2 (calls t) (given t) self.Post
   enum-known-p-2 c = search needs
@@ -119,7 +119,7 @@ module _ (t : ℕ) where
   fill-program-requires-2 c κs =
       let d = c .before .before .before .before .before .before .before .before .before .before in
       let h = fork-at (c .before .before .before .before .before) (d .pre .1 .1 .program) (d .pre .1 .1 .next) (d .pre .1 .1 .stands) in
-      (omega (arith, d .pre .0, then-later (now (d .args .s)) (d .args .n) (d .args .at) (d .args .base) (d .args .k) h (c .before .before .before .before .measure .ensures)), (d .pre .1 .0, then-room _ _ _ _ _ (d .pre .1 .1) h (c .before .before .before .before .measure .ensures)))
+      (omega (arith, d .pre .0, then-later (now (d .args .bytes)) (d .args .n) (d .args .at) (d .args .base) (d .args .k) h (c .before .before .before .before .measure .ensures)), (d .pre .1 .0, then-room _ _ _ _ _ (d .pre .1 .1) h (c .before .before .before .before .measure .ensures)))
 
   add-else-at : lts.Need-add-else-at (calls t) (given t) self.Post
   add-else-at c =
@@ -143,7 +143,7 @@ module _ (t : ℕ) where
   fill-program-requires-3 c κs =
       let d = c .before .before .before .before .before .before .before .before .before .before .before .before .before .before .before .before .before in
       let h = fork-at (c .before .before .before .before .before .before .before .before .before .before .before .before) (d .pre .1 .1 .program) (d .pre .1 .1 .next) (d .pre .1 .1 .stands) in
-      (omega (arith, d .pre .0, else-later (now (d .args .s)) (d .args .n) (d .args .at) (d .args .base) (d .args .k) h (c .before .before .before .before .before .before .before .before .before .before .before .measure .ensures) (λ x q e. c .before .before .before .before .before .before .fill-program2 .ensures x q e .0)), (d .pre .1 .0, else-room _ _ _ _ _ (d .pre .1 .1) h (c .before .before .before .before .before .before .before .before .before .before .before .measure .ensures) (λ x q e. c .before .before .before .before .before .before .fill-program2 .ensures x q e .0)))
+      (omega (arith, d .pre .0, else-later (now (d .args .bytes)) (d .args .n) (d .args .at) (d .args .base) (d .args .k) h (c .before .before .before .before .before .before .before .before .before .before .before .measure .ensures) (λ x q e. c .before .before .before .before .before .before .fill-program2 .ensures x q e .0)), (d .pre .1 .0, else-room _ _ _ _ _ (d .pre .1 .1) h (c .before .before .before .before .before .before .before .before .before .before .before .measure .ensures) (λ x q e. c .before .before .before .before .before .before .fill-program2 .ensures x q e .0)))
 
   sub-t26 : lts.Need-sub-t26 (calls t) (given t) self.Post
   sub-t26 c =
@@ -161,20 +161,20 @@ module _ (t : ℕ) where
   fill-program-requires-4 c κs =
       let d = c .before .before .before .before .before .before .before .before .before .before .before .before .before .before .before .before .before .before .before .before .before .before .before in
       let h = fork-at (c .before .before .before .before .before .before .before .before .before .before .before .before .before .before .before .before .before .before) (d .pre .1 .1 .program) (d .pre .1 .1 .next) (d .pre .1 .1 .stands) in
-      (omega (arith, d .pre .0, last-later (now (d .args .s)) (d .args .n) (d .args .at) (d .args .base) (d .args .k) h (c .before .before .before .before .before .before .before .before .before .before .before .before .before .before .before .before .before .measure .ensures) (λ x q e. c .before .before .before .before .before .before .before .before .before .before .before .before .fill-program2 .ensures x q e .0) (λ x q e. c .before .before .before .before .before .fill-program3 .ensures x q e .0)), (d .pre .1 .0, last-room _ _ _ _ _ (d .pre .1 .1) h (c .before .before .before .before .before .before .before .before .before .before .before .before .before .before .before .before .before .measure .ensures) (λ x q e. c .before .before .before .before .before .before .before .before .before .before .before .before .fill-program2 .ensures x q e .0) (λ x q e. c .before .before .before .before .before .fill-program3 .ensures x q e .0)))
+      (omega (arith, d .pre .0, last-later (now (d .args .bytes)) (d .args .n) (d .args .at) (d .args .base) (d .args .k) h (c .before .before .before .before .before .before .before .before .before .before .before .before .before .before .before .before .before .measure .ensures) (λ x q e. c .before .before .before .before .before .before .before .before .before .before .before .before .fill-program2 .ensures x q e .0) (λ x q e. c .before .before .before .before .before .fill-program3 .ensures x q e .0)), (d .pre .1 .0, last-room _ _ _ _ _ (d .pre .1 .1) h (c .before .before .before .before .before .before .before .before .before .before .before .before .before .before .before .before .before .measure .ensures) (λ x q e. c .before .before .before .before .before .before .before .before .before .before .before .before .fill-program2 .ensures x q e .0) (λ x q e. c .before .before .before .before .before .fill-program3 .ensures x q e .0)))
 
   returns : lts.Need-returns (calls t) (given t) self.Post
   unfolding programNodeRead
   returns c =
       let d = c .before .before .before .before .before in
-      absurd (program-parts (now (d .args .s)) (d .args .n) (d .args .at) (d .pre .1 .0)
+      absurd (program-parts (now (d .args .bytes)) (d .args .n) (d .args .at) (d .pre .1 .0)
       (sym (ap programNodeRead (c .before .r .given .1)) ∙ c .before .before .before .program-node .ensures) (d .pre .1 .1 .program) (d .pre .1 .1 .next) (d .pre .1 .1 .stands))
 
   returns-2 : lts.Need-returns-2 (calls t) (given t) self.Post
   unfolding programNodeRead
   returns-2 c x q e =
       let d = c .before .before .before .before .before in
-      laid-end (d .args .base) (d .args .k) _ q _ _ (program-parts (now (d .args .s)) (d .args .n) (d .args .at) (d .pre .1 .0)
+      laid-end (d .args .base) (d .args .k) _ q _ _ (program-parts (now (d .args .bytes)) (d .args .n) (d .args .at) (d .pre .1 .0)
       (sym (ap programNodeRead (c .before .p .given .1)) ∙ c .before .before .before .program-node .ensures) x q e)
 
   returns-3 : lts.Need-returns-3 (calls t) (given t) self.Post

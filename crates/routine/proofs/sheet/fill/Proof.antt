@@ -22,7 +22,7 @@ enum-told c = search needs
 returns : tie.Need-returns
 returns c =
     let a = c .before .before .before .before .args in
-    header-refused (a .s .now) (c .before .before .before .before .pre .sheet) (c .before .before .before .before .pre .read) _ _ (c .before .before .header .ensures) (c .enum-told .given .1)
+    header-refused (a .bytes .now) (c .before .before .before .before .pre .sheet) (c .before .before .before .before .pre .read) _ _ (c .before .before .header .ensures) (c .enum-told .given .1)
 
 fill-actions-requires : tie.Need-fill-actions-requires
 fill-actions-requires c κs =
@@ -31,9 +31,9 @@ fill-actions-requires c κs =
     let read = c .before .before .before .before .before .before .before .before .pre .read in
     let h = c .before .before .before .before .h .given .0 .0 in
     let n = h .facts in
-    let counts = header-found (a .s .now) sheet read _ h (c .before .before .before .before .before .before .header .ensures) (c .before .before .before .before .h .given .1) in
+    let counts = header-found (a .bytes .now) sheet read _ h (c .before .before .before .before .before .before .header .ensures) (c .before .before .before .before .h .given .1) in
     let space = h .space in
-    (accepted-length (a .s .now) sheet read, actions-room (a .s .now) sheet read h counts)
+    (accepted-length (a .bytes .now) sheet read, actions-room (a .bytes .now) sheet read h counts)
 
 objective-states-requires : tie.Need-objective-states-requires
 objective-states-requires c κs = search needs
@@ -51,10 +51,10 @@ returns-2 c =
     let read = c .before .before .before .before .before .before .before .before .before .before .before .before .pre .read in
     let h = c .before .before .before .before .before .before .before .before .h .given .0 .0 in
     let n = h .facts in
-    let counts = header-found (a .s .now) sheet read _ h (c .before .before .before .before .before .before .before .before .before .before .header .ensures) (c .before .before .before .before .before .before .before .before .h .given .1) in
+    let counts = header-found (a .bytes .now) sheet read _ h (c .before .before .before .before .before .before .before .before .before .before .header .ensures) (c .before .before .before .before .before .before .before .before .h .given .1) in
     let space = h .space in
     let laid = c .before .before .before .fill-actions .result in
-    never-refused (a .s .now) n View.States (laid .at) _ (accepted-length (a .s .now) sheet read) (c .before .before .objective-states .ensures) (c .enum-told2 .given .1) (sheet .start) _ (start-stands (a .s .now) sheet read h counts _ _ _ _ laid (c .before .before .before .fill-actions .ensures))
+    never-refused (a .bytes .now) n View.States (laid .at) _ (accepted-length (a .bytes .now) sheet read) (c .before .before .objective-states .ensures) (c .enum-told2 .given .1) (sheet .start) _ (start-stands (a .bytes .now) sheet read h counts _ _ _ _ laid (c .before .before .before .fill-actions .ensures))
 
 measure-requires : tie.Need-measure-requires
 measure-requires c κs =
@@ -63,13 +63,13 @@ measure-requires c κs =
     let read = c .before .before .before .before .before .before .before .before .before .before .before .before .before .pre .read in
     let h = c .before .before .before .before .before .before .before .before .before .h .given .0 .0 in
     let n = h .facts in
-    let counts = header-found (a .s .now) sheet read _ h (c .before .before .before .before .before .before .before .before .before .before .before .header .ensures) (c .before .before .before .before .before .before .before .before .before .h .given .1) in
+    let counts = header-found (a .bytes .now) sheet read _ h (c .before .before .before .before .before .before .before .before .before .before .before .header .ensures) (c .before .before .before .before .before .before .before .before .before .h .given .1) in
     let space = h .space in
     let laid = c .before .before .before .before .fill-actions .result in
     let start = c .before .start .given .0 .0 in
     let goal-at = c .before .start .given .0 .1 .0 in
-    let is = found (a .s .now) n View.States (laid .at) _ (accepted-length (a .s .now) sheet read) (c .before .before .before .objective-states .ensures) (c .before .start .given .1) (sheet .start) _ (start-stands (a .s .now) sheet read h counts _ _ _ _ laid (c .before .before .before .before .fill-actions .ensures)) in
-    (accepted-length (a .s .now) sheet read, goal-formula (a .s .now) sheet read h counts _ _ _ _ laid (c .before .before .before .before .fill-actions .ensures) start goal-at (is .0) (is .1))
+    let is = found (a .bytes .now) n View.States (laid .at) _ (accepted-length (a .bytes .now) sheet read) (c .before .before .before .objective-states .ensures) (c .before .start .given .1) (sheet .start) _ (start-stands (a .bytes .now) sheet read h counts _ _ _ _ laid (c .before .before .before .before .fill-actions .ensures)) in
+    (accepted-length (a .bytes .now) sheet read, goal-formula (a .bytes .now) sheet read h counts _ _ _ _ laid (c .before .before .before .before .fill-actions .ensures) start goal-at (is .0) (is .1))
 
 fill-program-requires : tie.Need-fill-program-requires
 fill-program-requires c κs =
@@ -78,13 +78,13 @@ fill-program-requires c κs =
     let read = c .before .before .before .before .before .before .before .before .before .before .before .before .before .before .before .before .pre .read in
     let h = c .before .before .before .before .before .before .before .before .before .before .before .before .h .given .0 .0 in
     let n = h .facts in
-    let counts = header-found (a .s .now) sheet read _ h (c .before .before .before .before .before .before .before .before .before .before .before .before .before .before .header .ensures) (c .before .before .before .before .before .before .before .before .before .before .before .before .h .given .1) in
+    let counts = header-found (a .bytes .now) sheet read _ h (c .before .before .before .before .before .before .before .before .before .before .before .before .before .before .header .ensures) (c .before .before .before .before .before .before .before .before .before .before .before .before .h .given .1) in
     let space = h .space in
     let laid = c .before .before .before .before .before .before .before .fill-actions .result in
     let start = c .before .before .before .before .start .given .0 .0 in
     let goal-at = c .before .before .before .before .start .given .0 .1 .0 in
-    let is = found (a .s .now) n View.States (laid .at) _ (accepted-length (a .s .now) sheet read) (c .before .before .before .before .before .before .objective-states .ensures) (c .before .before .before .before .start .given .1) (sheet .start) _ (start-stands (a .s .now) sheet read h counts _ _ _ _ laid (c .before .before .before .before .before .before .before .fill-actions .ensures)) in
-    (accepted-length (a .s .now) sheet read, program-room (a .s .now) sheet read h counts _ _ _ _ laid (c .before .before .before .before .before .before .before .fill-actions .ensures) start goal-at (is .0) (is .1) (c .before .before .measure .result) (c .before .before .measure .ensures))
+    let is = found (a .bytes .now) n View.States (laid .at) _ (accepted-length (a .bytes .now) sheet read) (c .before .before .before .before .before .before .objective-states .ensures) (c .before .before .before .before .start .given .1) (sheet .start) _ (start-stands (a .bytes .now) sheet read h counts _ _ _ _ laid (c .before .before .before .before .before .before .before .fill-actions .ensures)) in
+    (accepted-length (a .bytes .now) sheet read, program-room (a .bytes .now) sheet read h counts _ _ _ _ laid (c .before .before .before .before .before .before .before .fill-actions .ensures) start goal-at (is .0) (is .1) (c .before .before .measure .result) (c .before .before .measure .ensures))
 
 fill-tests-requires : tie.Need-fill-tests-requires
 fill-tests-requires c κs =
@@ -93,28 +93,28 @@ fill-tests-requires c κs =
     let read = c .before .before .before .before .before .before .before .before .before .before .before .before .before .before .before .before .before .before .before .pre .read in
     let h = c .before .before .before .before .before .before .before .before .before .before .before .before .before .before .before .h .given .0 .0 in
     let n = h .facts in
-    let counts = header-found (a .s .now) sheet read _ h (c .before .before .before .before .before .before .before .before .before .before .before .before .before .before .before .before .before .header .ensures) (c .before .before .before .before .before .before .before .before .before .before .before .before .before .before .before .h .given .1) in
+    let counts = header-found (a .bytes .now) sheet read _ h (c .before .before .before .before .before .before .before .before .before .before .before .before .before .before .before .before .before .header .ensures) (c .before .before .before .before .before .before .before .before .before .before .before .before .before .before .before .h .given .1) in
     let space = h .space in
     let laid = c .before .before .before .before .before .before .before .before .before .before .fill-actions .result in
     let start = c .before .before .before .before .before .before .before .start .given .0 .0 in
     let goal-at = c .before .before .before .before .before .before .before .start .given .0 .1 .0 in
-    let is = found (a .s .now) n View.States (laid .at) _ (accepted-length (a .s .now) sheet read) (c .before .before .before .before .before .before .before .before .before .objective-states .ensures) (c .before .before .before .before .before .before .before .start .given .1) (sheet .start) _ (start-stands (a .s .now) sheet read h counts _ _ _ _ laid (c .before .before .before .before .before .before .before .before .before .before .fill-actions .ensures)) in
-    (accepted-length (a .s .now) sheet read, goal-room (a .s .now) sheet read h counts _ _ _ _ laid (c .before .before .before .before .before .before .before .before .before .before .fill-actions .ensures) start goal-at (is .0) (is .1) (c .before .before .before .before .before .measure .result) (c .before .before .before .before .before .measure .ensures) _ _ _ (c .before .before .fill-program .result) (c .before .before .fill-program .ensures))
+    let is = found (a .bytes .now) n View.States (laid .at) _ (accepted-length (a .bytes .now) sheet read) (c .before .before .before .before .before .before .before .before .before .objective-states .ensures) (c .before .before .before .before .before .before .before .start .given .1) (sheet .start) _ (start-stands (a .bytes .now) sheet read h counts _ _ _ _ laid (c .before .before .before .before .before .before .before .before .before .before .fill-actions .ensures)) in
+    (accepted-length (a .bytes .now) sheet read, goal-room (a .bytes .now) sheet read h counts _ _ _ _ laid (c .before .before .before .before .before .before .before .before .before .before .fill-actions .ensures) start goal-at (is .0) (is .1) (c .before .before .before .before .before .measure .result) (c .before .before .before .before .before .measure .ensures) _ _ _ (c .before .before .fill-program .result) (c .before .before .fill-program .ensures))
 
-add-ends : tie.Need-add-ends
-add-ends c =
+add-last : tie.Need-add-last
+add-last c =
     let a = c .before .before .before .before .before .before .before .before .before .before .before .before .before .before .before .before .before .before .before .before .before .before .args in
     let sheet = c .before .before .before .before .before .before .before .before .before .before .before .before .before .before .before .before .before .before .before .before .before .before .pre .sheet in
     let read = c .before .before .before .before .before .before .before .before .before .before .before .before .before .before .before .before .before .before .before .before .before .before .pre .read in
     let h = c .before .before .before .before .before .before .before .before .before .before .before .before .before .before .before .before .before .before .h .given .0 .0 in
     let n = h .facts in
-    let counts = header-found (a .s .now) sheet read _ h (c .before .before .before .before .before .before .before .before .before .before .before .before .before .before .before .before .before .before .before .before .header .ensures) (c .before .before .before .before .before .before .before .before .before .before .before .before .before .before .before .before .before .before .h .given .1) in
+    let counts = header-found (a .bytes .now) sheet read _ h (c .before .before .before .before .before .before .before .before .before .before .before .before .before .before .before .before .before .before .before .before .header .ensures) (c .before .before .before .before .before .before .before .before .before .before .before .before .before .before .before .before .before .before .h .given .1) in
     let space = h .space in
     let laid = c .before .before .before .before .before .before .before .before .before .before .before .before .before .fill-actions .result in
     let start = c .before .before .before .before .before .before .before .before .before .before .start .given .0 .0 in
     let goal-at = c .before .before .before .before .before .before .before .before .before .before .start .given .0 .1 .0 in
-    let is = found (a .s .now) n View.States (laid .at) _ (accepted-length (a .s .now) sheet read) (c .before .before .before .before .before .before .before .before .before .before .before .before .objective-states .ensures) (c .before .before .before .before .before .before .before .before .before .before .start .given .1) (sheet .start) _ (start-stands (a .s .now) sheet read h counts _ _ _ _ laid (c .before .before .before .before .before .before .before .before .before .before .before .before .before .fill-actions .ensures)) in
-    let e = ends-inside (a .s .now) sheet read h counts _ _ _ _ laid (c .before .before .before .before .before .before .before .before .before .before .before .before .before .fill-actions .ensures) start goal-at (is .0) (is .1) (c .before .before .before .before .before .before .before .before .measure .result) (c .before .before .before .before .before .before .before .before .measure .ensures) _ _ _ (c .before .before .before .before .before .fill-program .result) (c .before .before .before .before .before .fill-program .ensures) in omega (arith, e)
+    let is = found (a .bytes .now) n View.States (laid .at) _ (accepted-length (a .bytes .now) sheet read) (c .before .before .before .before .before .before .before .before .before .before .before .before .objective-states .ensures) (c .before .before .before .before .before .before .before .before .before .before .start .given .1) (sheet .start) _ (start-stands (a .bytes .now) sheet read h counts _ _ _ _ laid (c .before .before .before .before .before .before .before .before .before .before .before .before .before .fill-actions .ensures)) in
+    let e = ends-inside (a .bytes .now) sheet read h counts _ _ _ _ laid (c .before .before .before .before .before .before .before .before .before .before .before .before .before .fill-actions .ensures) start goal-at (is .0) (is .1) (c .before .before .before .before .before .before .before .before .measure .result) (c .before .before .before .before .before .before .before .before .measure .ensures) _ _ _ (c .before .before .before .before .before .fill-program .result) (c .before .before .before .before .before .fill-program .ensures) in omega (arith, e)
 
 put-node-requires : tie.Need-put-node-requires
 unfolding Small
@@ -124,13 +124,13 @@ put-node-requires c κs =
     let read = c .before .before .before .before .before .before .before .before .before .before .before .before .before .before .before .before .before .before .before .before .before .before .before .pre .read in
     let h = c .before .before .before .before .before .before .before .before .before .before .before .before .before .before .before .before .before .before .before .h .given .0 .0 in
     let n = h .facts in
-    let counts = header-found (a .s .now) sheet read _ h (c .before .before .before .before .before .before .before .before .before .before .before .before .before .before .before .before .before .before .before .before .before .header .ensures) (c .before .before .before .before .before .before .before .before .before .before .before .before .before .before .before .before .before .before .before .h .given .1) in
+    let counts = header-found (a .bytes .now) sheet read _ h (c .before .before .before .before .before .before .before .before .before .before .before .before .before .before .before .before .before .before .before .before .before .header .ensures) (c .before .before .before .before .before .before .before .before .before .before .before .before .before .before .before .before .before .before .before .h .given .1) in
     let space = h .space in
     let laid = c .before .before .before .before .before .before .before .before .before .before .before .before .before .before .fill-actions .result in
     let start = c .before .before .before .before .before .before .before .before .before .before .before .start .given .0 .0 in
     let goal-at = c .before .before .before .before .before .before .before .before .before .before .before .start .given .0 .1 .0 in
-    let is = found (a .s .now) n View.States (laid .at) _ (accepted-length (a .s .now) sheet read) (c .before .before .before .before .before .before .before .before .before .before .before .before .before .objective-states .ensures) (c .before .before .before .before .before .before .before .before .before .before .before .start .given .1) (sheet .start) _ (start-stands (a .s .now) sheet read h counts _ _ _ _ laid (c .before .before .before .before .before .before .before .before .before .before .before .before .before .before .fill-actions .ensures)) in
-    let e = ends-inside (a .s .now) sheet read h counts _ _ _ _ laid (c .before .before .before .before .before .before .before .before .before .before .before .before .before .before .fill-actions .ensures) start goal-at (is .0) (is .1) (c .before .before .before .before .before .before .before .before .before .measure .result) (c .before .before .before .before .before .before .before .before .before .measure .ensures) _ _ _ (c .before .before .before .before .before .before .fill-program .result) (c .before .before .before .before .before .before .fill-program .ensures) in (omega (arith, e), tt)
+    let is = found (a .bytes .now) n View.States (laid .at) _ (accepted-length (a .bytes .now) sheet read) (c .before .before .before .before .before .before .before .before .before .before .before .before .before .objective-states .ensures) (c .before .before .before .before .before .before .before .before .before .before .before .start .given .1) (sheet .start) _ (start-stands (a .bytes .now) sheet read h counts _ _ _ _ laid (c .before .before .before .before .before .before .before .before .before .before .before .before .before .before .fill-actions .ensures)) in
+    let e = ends-inside (a .bytes .now) sheet read h counts _ _ _ _ laid (c .before .before .before .before .before .before .before .before .before .before .before .before .before .before .fill-actions .ensures) start goal-at (is .0) (is .1) (c .before .before .before .before .before .before .before .before .before .measure .result) (c .before .before .before .before .before .before .before .before .before .measure .ensures) _ _ _ (c .before .before .before .before .before .before .fill-program .result) (c .before .before .before .before .before .before .fill-program .ensures) in (omega (arith, e), tt)
 
 add-put-node : tie.Need-add-put-node
 add-put-node c =
@@ -139,13 +139,13 @@ add-put-node c =
     let read = c .before .before .before .before .before .before .before .before .before .before .before .before .before .before .before .before .before .before .before .before .before .before .before .before .before .pre .read in
     let h = c .before .before .before .before .before .before .before .before .before .before .before .before .before .before .before .before .before .before .before .before .before .h .given .0 .0 in
     let n = h .facts in
-    let counts = header-found (a .s .now) sheet read _ h (c .before .before .before .before .before .before .before .before .before .before .before .before .before .before .before .before .before .before .before .before .before .before .before .header .ensures) (c .before .before .before .before .before .before .before .before .before .before .before .before .before .before .before .before .before .before .before .before .before .h .given .1) in
+    let counts = header-found (a .bytes .now) sheet read _ h (c .before .before .before .before .before .before .before .before .before .before .before .before .before .before .before .before .before .before .before .before .before .before .before .header .ensures) (c .before .before .before .before .before .before .before .before .before .before .before .before .before .before .before .before .before .before .before .before .before .h .given .1) in
     let space = h .space in
     let laid = c .before .before .before .before .before .before .before .before .before .before .before .before .before .before .before .before .fill-actions .result in
     let start = c .before .before .before .before .before .before .before .before .before .before .before .before .before .start .given .0 .0 in
     let goal-at = c .before .before .before .before .before .before .before .before .before .before .before .before .before .start .given .0 .1 .0 in
-    let is = found (a .s .now) n View.States (laid .at) _ (accepted-length (a .s .now) sheet read) (c .before .before .before .before .before .before .before .before .before .before .before .before .before .before .before .objective-states .ensures) (c .before .before .before .before .before .before .before .before .before .before .before .before .before .start .given .1) (sheet .start) _ (start-stands (a .s .now) sheet read h counts _ _ _ _ laid (c .before .before .before .before .before .before .before .before .before .before .before .before .before .before .before .before .fill-actions .ensures)) in
-    let e = ends-inside (a .s .now) sheet read h counts _ _ _ _ laid (c .before .before .before .before .before .before .before .before .before .before .before .before .before .before .before .before .fill-actions .ensures) start goal-at (is .0) (is .1) (c .before .before .before .before .before .before .before .before .before .before .before .measure .result) (c .before .before .before .before .before .before .before .before .before .before .before .measure .ensures) _ _ _ (c .before .before .before .before .before .before .before .before .fill-program .result) (c .before .before .before .before .before .before .before .before .fill-program .ensures) in omega (arith, e)
+    let is = found (a .bytes .now) n View.States (laid .at) _ (accepted-length (a .bytes .now) sheet read) (c .before .before .before .before .before .before .before .before .before .before .before .before .before .before .before .objective-states .ensures) (c .before .before .before .before .before .before .before .before .before .before .before .before .before .start .given .1) (sheet .start) _ (start-stands (a .bytes .now) sheet read h counts _ _ _ _ laid (c .before .before .before .before .before .before .before .before .before .before .before .before .before .before .before .before .fill-actions .ensures)) in
+    let e = ends-inside (a .bytes .now) sheet read h counts _ _ _ _ laid (c .before .before .before .before .before .before .before .before .before .before .before .before .before .before .before .before .fill-actions .ensures) start goal-at (is .0) (is .1) (c .before .before .before .before .before .before .before .before .before .before .before .measure .result) (c .before .before .before .before .before .before .before .before .before .before .before .measure .ensures) _ _ _ (c .before .before .before .before .before .before .before .before .fill-program .result) (c .before .before .before .before .before .before .before .before .fill-program .ensures) in omega (arith, e)
 
 put-node-requires-2 : tie.Need-put-node-requires-2
 unfolding Small
@@ -155,13 +155,13 @@ put-node-requires-2 c κs =
     let read = c .before .before .before .before .before .before .before .before .before .before .before .before .before .before .before .before .before .before .before .before .before .before .before .before .before .pre .read in
     let h = c .before .before .before .before .before .before .before .before .before .before .before .before .before .before .before .before .before .before .before .before .before .h .given .0 .0 in
     let n = h .facts in
-    let counts = header-found (a .s .now) sheet read _ h (c .before .before .before .before .before .before .before .before .before .before .before .before .before .before .before .before .before .before .before .before .before .before .before .header .ensures) (c .before .before .before .before .before .before .before .before .before .before .before .before .before .before .before .before .before .before .before .before .before .h .given .1) in
+    let counts = header-found (a .bytes .now) sheet read _ h (c .before .before .before .before .before .before .before .before .before .before .before .before .before .before .before .before .before .before .before .before .before .before .before .header .ensures) (c .before .before .before .before .before .before .before .before .before .before .before .before .before .before .before .before .before .before .before .before .before .h .given .1) in
     let space = h .space in
     let laid = c .before .before .before .before .before .before .before .before .before .before .before .before .before .before .before .before .fill-actions .result in
     let start = c .before .before .before .before .before .before .before .before .before .before .before .before .before .start .given .0 .0 in
     let goal-at = c .before .before .before .before .before .before .before .before .before .before .before .before .before .start .given .0 .1 .0 in
-    let is = found (a .s .now) n View.States (laid .at) _ (accepted-length (a .s .now) sheet read) (c .before .before .before .before .before .before .before .before .before .before .before .before .before .before .before .objective-states .ensures) (c .before .before .before .before .before .before .before .before .before .before .before .before .before .start .given .1) (sheet .start) _ (start-stands (a .s .now) sheet read h counts _ _ _ _ laid (c .before .before .before .before .before .before .before .before .before .before .before .before .before .before .before .before .fill-actions .ensures)) in
-    let e = ends-inside (a .s .now) sheet read h counts _ _ _ _ laid (c .before .before .before .before .before .before .before .before .before .before .before .before .before .before .before .before .fill-actions .ensures) start goal-at (is .0) (is .1) (c .before .before .before .before .before .before .before .before .before .before .before .measure .result) (c .before .before .before .before .before .before .before .before .before .before .before .measure .ensures) _ _ _ (c .before .before .before .before .before .before .before .before .fill-program .result) (c .before .before .before .before .before .before .before .before .fill-program .ensures) in (omega (arith, e), tt)
+    let is = found (a .bytes .now) n View.States (laid .at) _ (accepted-length (a .bytes .now) sheet read) (c .before .before .before .before .before .before .before .before .before .before .before .before .before .before .before .objective-states .ensures) (c .before .before .before .before .before .before .before .before .before .before .before .before .before .start .given .1) (sheet .start) _ (start-stands (a .bytes .now) sheet read h counts _ _ _ _ laid (c .before .before .before .before .before .before .before .before .before .before .before .before .before .before .before .before .fill-actions .ensures)) in
+    let e = ends-inside (a .bytes .now) sheet read h counts _ _ _ _ laid (c .before .before .before .before .before .before .before .before .before .before .before .before .before .before .before .before .fill-actions .ensures) start goal-at (is .0) (is .1) (c .before .before .before .before .before .before .before .before .before .before .before .measure .result) (c .before .before .before .before .before .before .before .before .before .before .before .measure .ensures) _ _ _ (c .before .before .before .before .before .before .before .before .fill-program .result) (c .before .before .before .before .before .before .before .before .fill-program .ensures) in (omega (arith, e), tt)
 
 intersect-requires : tie.Need-intersect-requires
 intersect-requires c κs = search needs
@@ -174,16 +174,16 @@ returns-3 c =
     let read = c .before .before .before .before .before .before .before .before .before .before .before .before .before .before .before .before .before .before .before .before .before .before .before .before .before .before .before .pre .read in
     let h = c .before .before .before .before .before .before .before .before .before .before .before .before .before .before .before .before .before .before .before .before .before .before .before .h .given .0 .0 in
     let n = h .facts in
-    let counts = header-found (a .s .now) sheet read _ h (c .before .before .before .before .before .before .before .before .before .before .before .before .before .before .before .before .before .before .before .before .before .before .before .before .before .header .ensures) (c .before .before .before .before .before .before .before .before .before .before .before .before .before .before .before .before .before .before .before .before .before .before .before .h .given .1) in
+    let counts = header-found (a .bytes .now) sheet read _ h (c .before .before .before .before .before .before .before .before .before .before .before .before .before .before .before .before .before .before .before .before .before .before .before .before .before .header .ensures) (c .before .before .before .before .before .before .before .before .before .before .before .before .before .before .before .before .before .before .before .before .before .before .before .h .given .1) in
     let space = h .space in
     let laid = c .before .before .before .before .before .before .before .before .before .before .before .before .before .before .before .before .before .before .fill-actions .result in
     let start = c .before .before .before .before .before .before .before .before .before .before .before .before .before .before .before .start .given .0 .0 in
     let goal-at = c .before .before .before .before .before .before .before .before .before .before .before .before .before .before .before .start .given .0 .1 .0 in
-    let is = found (a .s .now) n View.States (laid .at) _ (accepted-length (a .s .now) sheet read) (c .before .before .before .before .before .before .before .before .before .before .before .before .before .before .before .before .before .objective-states .ensures) (c .before .before .before .before .before .before .before .before .before .before .before .before .before .before .before .start .given .1) (sheet .start) _ (start-stands (a .s .now) sheet read h counts _ _ _ _ laid (c .before .before .before .before .before .before .before .before .before .before .before .before .before .before .before .before .before .before .fill-actions .ensures)) in (
-      start-accepted (a .s .now) sheet read _ (start-filled (a .s .now) sheet read h counts _ _ _ _ laid (c .before .before .before .before .before .before .before .before .before .before .before .before .before .before .before .before .before .before .fill-actions .ensures) start goal-at (is .0) (is .1) _ (c .intersect .ensures)),
-      prepared-accepted (a .s .now) sheet read sheetHeads _ _ (heads-filled (a .s .now) sheet read h counts _ _ _ _ laid (c .before .before .before .before .before .before .before .before .before .before .before .before .before .before .before .before .before .before .fill-actions .ensures)),
-      prepared-accepted (a .s .now) sheet read nodeCells _ _ (nodes-filled (a .s .now) sheet read h counts _ _ _ _ laid (c .before .before .before .before .before .before .before .before .before .before .before .before .before .before .before .before .before .before .fill-actions .ensures) start goal-at (is .0) (is .1) (c .before .before .before .before .before .before .before .before .before .before .before .before .before .measure .result) (c .before .before .before .before .before .before .before .before .before .before .before .before .before .measure .ensures) _ _ _ (c .before .before .before .before .before .before .before .before .before .before .fill-program .result) (c .before .before .before .before .before .before .before .before .before .before .fill-program .ensures) _ _ _ _ (c .before .before .before .before .before .before .before .fill-tests .result) (c .before .before .before .before .before .before .before .fill-tests .ensures) (c .before .before .before .put-node .ensures) (c .before .put-node2 .ensures)),
-      prepared-accepted (a .s .now) sheet read setWords _ _ (sets-filled (a .s .now) sheet read h counts _ _ _ _ laid (c .before .before .before .before .before .before .before .before .before .before .before .before .before .before .before .before .before .before .fill-actions .ensures) start goal-at (is .0) (is .1) (c .before .before .before .before .before .before .before .before .before .before .before .before .before .measure .result) (c .before .before .before .before .before .before .before .before .before .before .before .before .before .measure .ensures) _ _ _ (c .before .before .before .before .before .before .before .before .before .before .fill-program .result) (c .before .before .before .before .before .before .before .before .before .before .fill-program .ensures) _ _ _ _ (c .before .before .before .before .before .before .before .fill-tests .result) (c .before .before .before .before .before .before .before .fill-tests .ensures) (c .before .before .before .put-node .ensures) (c .before .put-node2 .ensures)),
+    let is = found (a .bytes .now) n View.States (laid .at) _ (accepted-length (a .bytes .now) sheet read) (c .before .before .before .before .before .before .before .before .before .before .before .before .before .before .before .before .before .objective-states .ensures) (c .before .before .before .before .before .before .before .before .before .before .before .before .before .before .before .start .given .1) (sheet .start) _ (start-stands (a .bytes .now) sheet read h counts _ _ _ _ laid (c .before .before .before .before .before .before .before .before .before .before .before .before .before .before .before .before .before .before .fill-actions .ensures)) in (
+      start-accepted (a .bytes .now) sheet read _ (start-filled (a .bytes .now) sheet read h counts _ _ _ _ laid (c .before .before .before .before .before .before .before .before .before .before .before .before .before .before .before .before .before .before .fill-actions .ensures) start goal-at (is .0) (is .1) _ (c .intersect .ensures)),
+      prepared-accepted (a .bytes .now) sheet read sheetHeads _ _ (heads-filled (a .bytes .now) sheet read h counts _ _ _ _ laid (c .before .before .before .before .before .before .before .before .before .before .before .before .before .before .before .before .before .before .fill-actions .ensures)),
+      prepared-accepted (a .bytes .now) sheet read nodeCells _ _ (nodes-filled (a .bytes .now) sheet read h counts _ _ _ _ laid (c .before .before .before .before .before .before .before .before .before .before .before .before .before .before .before .before .before .before .fill-actions .ensures) start goal-at (is .0) (is .1) (c .before .before .before .before .before .before .before .before .before .before .before .before .before .measure .result) (c .before .before .before .before .before .before .before .before .before .before .before .before .before .measure .ensures) _ _ _ (c .before .before .before .before .before .before .before .before .before .before .fill-program .result) (c .before .before .before .before .before .before .before .before .before .before .fill-program .ensures) _ _ _ _ (c .before .before .before .before .before .before .before .fill-tests .result) (c .before .before .before .before .before .before .before .fill-tests .ensures) (c .before .before .before .put-node .ensures) (c .before .put-node2 .ensures)),
+      prepared-accepted (a .bytes .now) sheet read setWords _ _ (sets-filled (a .bytes .now) sheet read h counts _ _ _ _ laid (c .before .before .before .before .before .before .before .before .before .before .before .before .before .before .before .before .before .before .fill-actions .ensures) start goal-at (is .0) (is .1) (c .before .before .before .before .before .before .before .before .before .before .before .before .before .measure .result) (c .before .before .before .before .before .before .before .before .before .before .before .before .before .measure .ensures) _ _ _ (c .before .before .before .before .before .before .before .before .before .before .fill-program .result) (c .before .before .before .before .before .before .before .before .before .before .fill-program .ensures) _ _ _ _ (c .before .before .before .before .before .before .before .fill-tests .result) (c .before .before .before .before .before .before .before .fill-tests .ensures) (c .before .before .before .put-node .ensures) (c .before .put-node2 .ensures)),
     )
 
 pub fill-spec : {M : Type 1} → statement M
@@ -202,7 +202,7 @@ fill-spec =
     measure-requires
     fill-program-requires
     fill-tests-requires
-    add-ends
+    add-last
     put-node-requires
     add-put-node
     put-node-requires-2

@@ -18,12 +18,12 @@ enum-told c = search needs
 
 fill-requires : tie.Need-fill-requires
 unfolding answerOf
-fill-requires c κs = some-sheet (c .before .before .before .before .before .before .before .args .s .now) (sym (ap answerOf (c .before .before .before .enum-told .given .1)) ∙ c .before .before .before .before .before .read .ensures)
+fill-requires c κs = some-sheet (c .before .before .before .before .before .before .before .args .bytes .now) (sym (ap answerOf (c .before .before .before .enum-told .given .1)) ∙ c .before .before .before .before .before .read .ensures)
 
 returns : tie.Need-returns
 unfolding answerOf preparedOf
 returns c =
-    let bytes = c .before .before .before .before .before .args .s .now in
+    let bytes = c .before .before .before .before .before .args .bytes .now in
     let e = sym (ap answerOf (c .before .r .given .1)) ∙ c .before .before .before .read .ensures in
     (refused-start bytes _ e, refused-memory bytes _ e sheetHeads _, refused-memory bytes _ e nodeCells _, refused-memory bytes _ e setWords _)
 

@@ -22,7 +22,7 @@ shared-slice-read-if1 : tie.Need-shared-slice-read-if1 Inv-loop μ-loop
 shared-slice-read-if1 c = omega arith
 
 returns : tie.Need-returns Inv-loop μ-loop
-returns c = let a = c .before .before .before in sym (a .loop .inv .1 ∙ zero-no (now (a .before .args .s)) (a .loop .i) (omega arith) (c .if1 .taken))
+returns c = let a = c .before .before .before in sym (a .loop .inv .1 ∙ zero-no (now (a .before .args .bytes)) (a .loop .i) (omega arith) (c .if1 .taken))
 
 add-i : tie.Need-add-i Inv-loop μ-loop
 add-i c = omega arith
@@ -31,10 +31,10 @@ loop-less : tie.Need-loop-less Inv-loop μ-loop
 loop-less c = omega arith
 
 loop-again : tie.Need-loop-again Inv-loop μ-loop
-loop-again c = let a = c .before .before .before in (omega arith, a .loop .inv .1 ∙ zero-yes (now (a .before .args .s)) (a .loop .i) (omega arith) (c .if1 .left))
+loop-again c = let a = c .before .before .before in (omega arith, a .loop .inv .1 ∙ zero-yes (now (a .before .args .bytes)) (a .loop .i) (omega arith) (c .if1 .left))
 
 returns-2 : tie.Need-returns-2 Inv-loop μ-loop
-returns-2 c = let a = c .before in sym (a .loop .inv .1 ∙ zero-end (now (a .before .args .s)) (a .loop .i) (omega arith))
+returns-2 c = let a = c .before in sym (a .loop .inv .1 ∙ zero-end (now (a .before .args .bytes)) (a .loop .i) (omega arith))
 
 pub all-zero-spec : {M : Type 1} → statement M
 all-zero-spec =

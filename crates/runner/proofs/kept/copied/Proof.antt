@@ -31,10 +31,10 @@ loop-less : tie.Need-loop-less Inv-loop μ-loop
 loop-less c = omega arith
 
 loop-again : tie.Need-loop-again Inv-loop μ-loop
-loop-again c = let a = c .before .before in (omega arith, rw (a .loop .inv .1) (pad-more 1024 (now (a .before .args .s)) (a .loop .i) (omega arith) (omega arith)))
+loop-again c = let a = c .before .before in (omega arith, rw (a .loop .inv .1) (pad-more 1024 (now (a .before .args .bytes)) (a .loop .i) (omega arith) (omega arith)))
 
 returns : tie.Need-returns Inv-loop μ-loop
-returns c = let a = c .before in a .loop .inv .1 ∙ pad-end 1024 (now (a .before .args .s)) (a .loop .i) (omega arith)
+returns c = let a = c .before in a .loop .inv .1 ∙ pad-end 1024 (now (a .before .args .bytes)) (a .loop .i) (omega arith)
 
 pub copied-spec : {M : Type 1} → statement M
 copied-spec = tie.close (tie.spec Inv-loop μ-loop loop-holds shared-slice-read-to array-write-to add-i loop-less loop-again returns)

@@ -42,7 +42,7 @@ sets c = c .before .before .before .before .before .before .before .prepare .las
 
 followed : (c : Followed) (stand : Stand) → c .follow .result ≡ stand
     → reportedOf (reportedAt (heads c) (sets c) stand (start c .args .reply))
-    ≡ withoutValue (reportOf (resumed (reading (now (start c .args .s))) (replies c)) (replies c) (start c .args .reply))
+    ≡ withoutValue (reportOf (resumed (reading (now (start c .args .bytes))) (replies c)) (replies c) (start c .args .reply))
 followed c stand e =
     let p = c .before .before .before .before .before .before .before .prepare .ensures in
     ready-reported _ _ _ (sym (ap preparedOf (c .before .before .before .before .before .start .given .1)) ∙ p .0)

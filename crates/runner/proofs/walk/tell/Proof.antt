@@ -23,7 +23,7 @@ abbrev Followed : Type 0
 Followed = lts.After-follow (prepare-reads.Asked, prepare-reads.Learnt, follow-reads.Asked, follow-reads.Learnt) reads.Pre reads.Post
 
 abbrev sheet : Followed → List ℕ
-sheet c = now (c .before .before .before .before .before .before .before .before .before .before .before .before .before .args .s)
+sheet c = now (c .before .before .before .before .before .before .before .before .before .before .before .before .before .args .bytes)
 
 abbrev replies : Followed → List ℕ
 replies c = now (c .before .before .before .before .before .before .before .before .before .before .before .before .before .args .replies)

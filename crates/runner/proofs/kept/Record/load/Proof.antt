@@ -23,7 +23,7 @@ enum-told : tie.Need-enum-told
 enum-told c = search needs
 
 -- What the reader said, where it accepts the bytes.
-accepts : (c : tie.After-enum-told) → answerOf Answer.Accepted ≡ withoutValue (reading (now (c .before .before .before .before .args .s)))
+accepts : (c : tie.After-enum-told) → answerOf Answer.Accepted ≡ withoutValue (reading (now (c .before .before .before .before .args .bytes)))
 accepts c = sym (ap answerOf (c .enum-told .given .1)) ∙ c .before .before .read .ensures
 
 copied-requires : tie.Need-copied-requires
@@ -36,7 +36,7 @@ returns c =
 
 returns-2 : tie.Need-returns-2
 returns-2 c =
-    let bytes = now (c .before .before .before .before .before .args .s) in
+    let bytes = now (c .before .before .before .before .before .args .bytes) in
     (accepts (c .before), sym (loaded-accepted bytes (accepts (c .before)) ∙ λ i. record { sheet = sym (c .copied .ensures) i; len = length bytes; replies = replicate 64 0; count = 0 }))
 
 pub load-spec : {M : Type 1} → statement M

@@ -1,14 +1,14 @@
--- `reader::nodes::first_node` meets its contract: each return by the law of its case (proofs/NodeLaws.antt). Assumes nothing.
+-- `reader::nodes::program_at` meets its contract: each return by the law of its case (FieldLaws of `format`). Assumes nothing.
 use mathlib.Core.Path.{_≡_, sym, ap, _∙_}
 use borrow.Author.Tests.{eq-eqb, ne-eqb}
-use Rattle.reader.specs.Answers.{numberOf, fieldRead}
-use Rattle.reader.specs.NodeAnswers.{programNodeRead}
-use Rattle.reader.proofs.NodeLaws.{program-cut, end-first, act-many, number-cut, act-first, branch-many, branch-first, loop-first}
+use Rattle.format.proofs.FieldLaws.{program-cut, end-first, act-many, number-cut, act-first, branch-many, branch-first, loop-first}
+use Rattle.reader.specs.Answers.{numberOf, programNodeRead}
+use Rattle.reader.specs.Method.{fieldRead}
 use borrow.Author.Needs.{needs}
-use Rattle.reader.proofs.nodes.first_node.Statement.{statement}
-use Rattle.reader.proofs.nodes.first_node.Tie as tie
-use Rattle.reader.proofs.nodes.first_node.Reads as reads
-use Rattle.reader.proofs.nodes.first_node.Lts as lts
+use Rattle.reader.proofs.nodes.program_at.Statement.{statement}
+use Rattle.reader.proofs.nodes.program_at.Tie as tie
+use Rattle.reader.proofs.nodes.program_at.Reads as reads
+use Rattle.reader.proofs.nodes.program_at.Lts as lts
 use Rattle.reader.proofs.bits.field_at.Reads as field-at-reads
 
 field-at-requires : tie.Need-field-at-requires
@@ -69,8 +69,8 @@ unfolding programNodeRead numberOf fieldRead
 returns-8 c =
     sym (loop-first (c .before .before .before .before .before .before .before .before .args .acts) (c .before .before .before .before .before .before .before .before .args .branches) _ _ (sym (c .before .before .before .before .before .before .field-at .ensures) ∙ ap fieldRead (c .before .before .before .before .tag .given .1)) (ne-eqb _ 0 (c .before .before .if1 .left)) (ne-eqb _ 1 (c .before .if2 .left)) (ne-eqb _ 2 (c .if4 .left)))
 
-pub first-node-spec : {M : Type 1} → statement M
-first-node-spec =
+pub program-at-spec : {M : Type 1} → statement M
+program-at-spec =
     tie.close
     (tie.spec
     field-at-requires

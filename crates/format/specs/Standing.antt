@@ -1,13 +1,12 @@
--- Where the parts of a sheet stand in its bytes, by the sheet's data: what the layers above know of the positions of an accepted sheet (proofs/StandingLaws.antt,
--- `accepted-standing`), without opening a reader.
+-- The method: where the parts of a sheet stand in its bytes, by the sheet's data. An auditor of the promises needs none of it. So code walks through an accepted sheet without
+-- opening a reader (proofs/StandingLaws.antt, `accepted-standing`).
 use Prim.Native.Nat.{ℕ, _+_, _*_, _≤_, _<_}
 use mathlib.Core.Path.{_≡_}
 use mathlib.Core.List.{List, [], _∷_}
 use mathlib.Core.Bool.{Bool, true, false}
 use lib.ListN.{length}
 use Rattle.format.specs.Syntax.{Objective, Epistemic, known, not-known, all-of, any-of, Program, end, act, branch, Action, change, probe, Sheet}
-use Rattle.format.specs.Format.{got, known-head, not-known-head, all-of-head, any-of-head, epistemicHead, end-head, act-head, branch-head, programHead, deepest, objective, epistemic, header, isPadding}
-use Rattle.reader.specs.Nodes.{change-head, probe-head, actionHead}
+use Rattle.format.specs.Format.{got, known-node, not-known-node, all-of-node, any-of-node, epistemicNode, end-node, act-node, branch-node, programNode, mostBytes, deepest, changes, probes, kind, replyTotal, objective, epistemic, isEdition, header, isPadding}
 
 -- Where the parts of a branch stand behind its tag, from p to q: its condition, which C says is read and F that it stands, its then-program, its else-program and
 -- its rest, one after the other.
@@ -34,8 +33,8 @@ module _ (bytes : List ℕ) (n : ℕ) where
   -- An action stands from p to q.
   unfoldable pub ActionAt : Action → (p q : ℕ) → Type 0
   unfolding RepliesAt
-  ActionAt (change f) p q = (r : ℕ) × (actionHead bytes p ≡ got change-head r) × ObjectiveAt true f r q
-  ActionAt (probe fs) p q = (r : ℕ) × (actionHead bytes p ≡ got (probe-head (length fs)) r) × RepliesAt fs r q
+  ActionAt (change f) p q = (r : ℕ) × (kind bytes p ≡ got changes r) × ObjectiveAt true f r q
+  ActionAt (probe fs) p q = (r : ℕ) × (kind bytes p ≡ got probes r) × (i : ℕ) × (replyTotal bytes r ≡ got (length fs) i) × RepliesAt fs i q
 
   -- Actions stand from p to q, one after the other.
   unfoldable pub ActionsAt : List Action → (p q : ℕ) → Type 0
@@ -45,10 +44,10 @@ module _ (bytes : List ℕ) (n : ℕ) where
 
   -- An epistemic formula stands from p to q.
   unfoldable pub EpistemicAt : Epistemic → (p q : ℕ) → Type 0
-  EpistemicAt (known f) p q = (r : ℕ) × (epistemicHead bytes p ≡ got known-head r) × ObjectiveAt false f r q
-  EpistemicAt (not-known f) p q = (r : ℕ) × (epistemicHead bytes p ≡ got not-known-head r) × ObjectiveAt false f r q
-  EpistemicAt (all-of f g) p q = (i : ℕ) × (epistemicHead bytes p ≡ got all-of-head i) × (r : ℕ) × EpistemicAt f i r × EpistemicAt g r q
-  EpistemicAt (any-of f g) p q = (i : ℕ) × (epistemicHead bytes p ≡ got any-of-head i) × (r : ℕ) × EpistemicAt f i r × EpistemicAt g r q
+  EpistemicAt (known f) p q = (r : ℕ) × (epistemicNode bytes p ≡ got known-node r) × ObjectiveAt false f r q
+  EpistemicAt (not-known f) p q = (r : ℕ) × (epistemicNode bytes p ≡ got not-known-node r) × ObjectiveAt false f r q
+  EpistemicAt (all-of f g) p q = (i : ℕ) × (epistemicNode bytes p ≡ got all-of-node i) × (r : ℕ) × EpistemicAt f i r × EpistemicAt g r q
+  EpistemicAt (any-of f g) p q = (i : ℕ) × (epistemicNode bytes p ≡ got any-of-node i) × (r : ℕ) × EpistemicAt f i r × EpistemicAt g r q
 
   -- An epistemic formula is read from p to q.
   abbrev pub EpistemicRead : Epistemic → (p q : ℕ) → Type 0
@@ -57,16 +56,17 @@ module _ (bytes : List ℕ) (n : ℕ) where
   -- A program stands from p to q.
   unfoldable pub ProgramAt : Program → (p q : ℕ) → Type 0
   unfolding EpistemicAt
-  ProgramAt end p q = programHead 0 0 bytes p ≡ got end-head q
-  ProgramAt (act a rest) p q = (r : ℕ) × (programHead 0 0 bytes p ≡ got (act-head a) r) × ProgramAt rest r q
-  ProgramAt (branch f y z rest) p q = (r : ℕ) × (programHead 0 0 bytes p ≡ got branch-head r) × BranchAt (EpistemicRead f) (EpistemicAt f) (ProgramAt y) (ProgramAt z) (ProgramAt rest) r q
+  ProgramAt end p q = programNode 0 0 bytes p ≡ got end-node q
+  ProgramAt (act a rest) p q = (r : ℕ) × (programNode 0 0 bytes p ≡ got (act-node a) r) × ProgramAt rest r q
+  ProgramAt (branch f y z rest) p q = (r : ℕ) × (programNode 0 0 bytes p ≡ got branch-node r) × BranchAt (EpistemicRead f) (EpistemicAt f) (ProgramAt y) (ProgramAt z) (ProgramAt rest) r q
 
 -- Where the parts of a sheet stand: behind its header the actions, the start formula, the goal and the program, one after the other, and fewer than 8 bits behind
 -- these the end of the bytes.
 pub record Standing (bytes : List ℕ) (sheet : Sheet) : Type 0 where
-  pub short : length bytes ≤ 1024
+  pub short : length bytes ≤ mostBytes
   pub actions-at : ℕ
-  pub header-read : header bytes 0 ≡ got (record { facts = sheet .facts; actions = length (sheet .actions) }) actions-at
+  pub edition : ℕ
+  pub header-read : header isEdition bytes 0 ≡ got (record { edition = edition; facts = sheet .facts; actions = length (sheet .actions) }) actions-at
   pub start-at : ℕ
   pub goal-at : ℕ
   pub program-at : ℕ

@@ -8,16 +8,12 @@ use lib.Dec.{leb, ltb, eqb}
 use lib.ListN.{length}
 use borrow.Author.Tests.{ltb-true}
 use Rattle.lists.proofs.ListLaws.{both-true}
 use Rattle.format.specs.Syntax.{Objective, Epistemic, known, not-known, all-of, any-of, Program, end, act, branch, Action, change, probe, Sheet}
-use Rattle.format.specs.Format.{accepted, got, mapped, Reader, _>>=_, give, field, deepest, objective, EpistemicHead, known-head, not-known-head, all-of-head, any-of-head, epistemicHead, epistemicBehind, epistemic, objectives, Kind, changes, probes, kind, replyNumber, theory, replies, actionBehind, action, actionList, ProgramRead, ProgramHead, end-head, act-head, branch-head, programHead, programBehind, programWithin, levels, program, Header, header, body, sheetFields, isPadding, ofSheet, reading}
-use Rattle.reader.specs.Nodes.{change-head, probe-head, actionHeadBehind, actionHead}
-use Rattle.reader.specs.Answers.{inTheory, table}
-use Rattle.reader.specs.declared.formula.View.{View}
-use Rattle.reader.specs.Standing.{ObjectiveAt, RepliesAt, ActionAt, ActionsAt, EpistemicAt, ProgramAt, Standing}
-use Rattle.format.proofs.FormatLaws.{Finds, finds-give, finds-refuse, finds-if, finds-check, finds-behind, finds-field, got-behind, behind-got, head-anywhere}
+use Rattle.format.specs.Format.{accepted, got, Reader, _>>=_, give, field, deepest, objective, EpistemicNode, known-node, not-known-node, all-of-node, any-of-node, epistemicNode, epistemicBehind, epistemic, objectives, Kind, changes, probes, kind, replyTotal, theory, replies, actionBehind, action, actionList, ProgramRead, ProgramNode, end-node, act-node, branch-node, programNode, programBehind, programWithin, levels, program, Header, header, body, isEdition, sheetFields, isPadding, mostBytes, mostReplies, mostActs, mostBranches, reading}
+use Rattle.format.specs.Standing.{ObjectiveAt, RepliesAt, ActionAt, ActionsAt, EpistemicAt, ProgramAt, Standing}
+use Rattle.format.proofs.FormatLaws.{Finds, finds-give, finds-refuse, finds-if, finds-check, finds-behind, finds-field, got-behind, behind-got, node-anywhere}
 use Rattle.format.proofs.FormulaLaws.{objective-levels, objective-onward}
-use Rattle.reader.proofs.NodeLaws.{sheet-short}
 use Rattle.format.proofs.SheetLaws.{objectives-long, list-few, accepted-how, accepted-padding}
 
 module _ (bytes : List ℕ) (n : ℕ) where
   -- Replies that are read stand there.
@@ -25,28 +21,19 @@ module _ (bytes : List ℕ) (n : ℕ) where
   unfolding objectives RepliesAt
   standing-replies zero p = finds-give bytes p _ [] refl
   standing-replies (suc m) p =
-      finds-behind bytes p _ (objective n false 16) _ (λ f r e.
+      finds-behind bytes p _ (objective n false deepest) _ (λ f r e.
       finds-behind bytes r _ (objectives n m) _ (λ fs q h.
       finds-give bytes q _ (f ∷ fs) (r, e, standing-replies m r .found fs q h)))
-
-  -- The first node of an action, by its kind and its reply count.
-  change-first : (p r : ℕ) → kind bytes p ≡ got changes r → actionHead bytes p ≡ got change-head r
-  unfolding actionHead actionHeadBehind give
-  change-first p r e = behind-got kind actionHeadBehind bytes p e
-
-  probe-first : (p r m q : ℕ) → kind bytes p ≡ got probes r → replyNumber bytes r ≡ got m q → actionHead bytes p ≡ got (probe-head m) q
-  unfolding actionHead actionHeadBehind give
-  probe-first p r m q e h = behind-got kind actionHeadBehind bytes p e ∙ behind-got replyNumber (λ m. give (probe-head m)) bytes r h
 
   -- An action that is read stands there.
   standing-behind : (p r : ℕ) (h : Kind) → kind bytes p ≡ got h r → Finds bytes r (λ a q. ActionAt bytes n a p q) (actionBehind n h)
   unfolding actionBehind replies ActionAt
-  standing-behind p r changes e = finds-behind bytes r _ (theory n) _ (λ f q h. finds-give bytes q _ (change f) (r, change-first p r e, h))
+  standing-behind p r changes e = finds-behind bytes r _ (theory n) _ (λ f q h. finds-give bytes q _ (change f) (r, e, h))
   standing-behind p r probes e =
       finds-behind bytes r _ (replies n) _ (λ fs q h.
-      let w = got-behind replyNumber (objectives n) bytes r fs q h in
+      let w = got-behind replyTotal (objectives n) bytes r fs q h in
       finds-give bytes q _ (probe fs)
-      (w .middle, rw (objectives-long n (w .value) bytes (w .middle) fs q (w .second)) (probe-first p r (w .value) (w .middle) e (w .first)), standing-replies (w .value) (w .middle) .found fs q (w .second)))
+      (r, e, w .middle, rw (objectives-long n (w .value) bytes (w .middle) fs q (w .second)) (w .first), standing-replies (w .value) (w .middle) .found fs q (w .second)))
 
   pub standing-action : (p : ℕ) → Finds bytes p (λ a q. ActionAt bytes n a p q) (action n)
   unfolding action
@@ -63,34 +50,34 @@ module _ (bytes : List ℕ) (n : ℕ) where
 
   -- An epistemic formula behind its first node, whose parts stand where they are read.
   standing-epistemic-behind : (inside : Reader Objective) (part : Reader Epistemic) → ((f : Objective) (r q : ℕ) → inside bytes r ≡ got f q → ObjectiveAt bytes n false f r q)
-      → ((f : Epistemic) (r q : ℕ) → part bytes r ≡ got f q → EpistemicAt bytes n f r q) → (p r : ℕ) (h : EpistemicHead) → epistemicHead bytes p ≡ got h r
+      → ((f : Epistemic) (r q : ℕ) → part bytes r ≡ got f q → EpistemicAt bytes n f r q) → (p r : ℕ) (h : EpistemicNode) → epistemicNode bytes p ≡ got h r
       → Finds bytes r (λ f q. EpistemicAt bytes n f p q) (epistemicBehind inside part h)
   unfolding epistemicBehind EpistemicAt
-  standing-epistemic-behind inside part x y p r known-head e = finds-behind bytes r _ inside _ (λ f q h. finds-give bytes q _ (known f) (r, e, x f r q h))
-  standing-epistemic-behind inside part x y p r not-known-head e = finds-behind bytes r _ inside _ (λ f q h. finds-give bytes q _ (not-known f) (r, e, x f r q h))
-  standing-epistemic-behind inside part x y p r all-of-head e =
+  standing-epistemic-behind inside part x y p r known-node e = finds-behind bytes r _ inside _ (λ f q h. finds-give bytes q _ (known f) (r, e, x f r q h))
+  standing-epistemic-behind inside part x y p r not-known-node e = finds-behind bytes r _ inside _ (λ f q h. finds-give bytes q _ (not-known f) (r, e, x f r q h))
+  standing-epistemic-behind inside part x y p r all-of-node e =
       finds-behind bytes r _ part _ (λ f i h. finds-behind bytes i _ part _ (λ g q j. finds-give bytes q _ (all-of f g) (r, e, i, y f r i h, y g i q j)))
-  standing-epistemic-behind inside part x y p r any-of-head e =
+  standing-epistemic-behind inside part x y p r any-of-node e =
       finds-behind bytes r _ part _ (λ f i h. finds-behind bytes i _ part _ (λ g q j. finds-give bytes q _ (any-of f g) (r, e, i, y f r i h, y g i q j)))
 
   -- An epistemic formula that is read, with at most 16 levels, stands there.
-  pub standing-epistemic : (d : ℕ) → d ≤ 16 → (p : ℕ) → Finds bytes p (λ f q. EpistemicAt bytes n f p q) (epistemic n d)
+  pub standing-epistemic : (d : ℕ) → d ≤ deepest → (p : ℕ) → Finds bytes p (λ f q. EpistemicAt bytes n f p q) (epistemic n d)
   unfolding epistemic
   standing-epistemic zero l p = finds-refuse bytes p _ 8
   standing-epistemic (suc d) l p =
-      finds-behind bytes p _ epistemicHead _ (λ h r e.
-      standing-epistemic-behind (objective n false d) (epistemic n d) (λ f i q j. objective-levels n false d 16 (omega arith) bytes i f q j)
+      finds-behind bytes p _ epistemicNode _ (λ h r e.
+      standing-epistemic-behind (objective n false d) (epistemic n d) (λ f i q j. objective-levels n false d deepest (omega arith) bytes i f q j)
       (λ f i q j. standing-epistemic d (omega arith) i .found f q j) p r h e)
 
   -- A program behind its first node, whose parts stand where they are read.
   standing-program-behind : (k : ℕ) (part : ℕ → ℕ → Reader ProgramRead) → ((acts branches p : ℕ) → Finds bytes p (λ c q. ProgramAt bytes n (c .program) p q) (part acts branches))
-      → (acts branches p r : ℕ) (h : ProgramHead) → programHead 0 0 bytes p ≡ got h r → Finds bytes r (λ c q. ProgramAt bytes n (c .program) p q) (programBehind n k part acts branches h)
+      → (acts branches p r : ℕ) (h : ProgramNode) → programNode 0 0 bytes p ≡ got h r → Finds bytes r (λ c q. ProgramAt bytes n (c .program) p q) (programBehind n k part acts branches h)
   unfolding programBehind ProgramAt
-  standing-program-behind k part stands acts branches p r end-head e = finds-give bytes r _ _ e
-  standing-program-behind k part stands acts branches p r (act-head a) e =
+  standing-program-behind k part stands acts branches p r end-node e = finds-give bytes r _ _ e
+  standing-program-behind k part stands acts branches p r (act-node a) e =
       finds-check bytes r _ (ltb a k) 9 _ (λ w. finds-behind bytes r _ (part (acts + 1) branches) _ (λ c q h. finds-give bytes q _ _ (r, e, stands (acts + 1) branches r .found c q h)))
-  standing-program-behind k part stands acts branches p r branch-head e =
-      finds-behind bytes r Q (epistemic n 16) _ (λ f i h.
+  standing-program-behind k part stands acts branches p r branch-node e =
+      finds-behind bytes r Q (epistemic n deepest) _ (λ f i h.
       finds-behind bytes i Q (part acts (branches + 1)) _ (λ x j hx.
       finds-behind bytes j Q (part (x .acts) (x .branches)) _ (λ y l hy.
       finds-behind bytes l Q (part (y .acts) (y .branches)) _ (λ z q hz.
@@ -102,7 +89,7 @@ module _ (bytes : List ℕ) (n : ℕ) where
           else-at = j;
           rest-at = l;
           condition-read = h;
-          condition-stands = standing-epistemic 16 (omega arith) r .found f i h;
+          condition-stands = standing-epistemic deepest (omega arith) r .found f i h;
           then-stands = stands acts (branches + 1) i .found x j hx;
           else-stands = stands (x .acts) (x .branches) j .found y l hy;
           rest-stands = stands (y .acts) (y .branches) l .found z q hz;
@@ -117,62 +104,52 @@ module _ (bytes : List ℕ) (n : ℕ) where
   unfolding programWithin
   standing-within k zero acts branches p = finds-refuse bytes p _ 11
   standing-within k (suc d) acts branches p =
-      finds-behind bytes p _ (programHead acts branches) _ (λ h r e. standing-program-behind k (programWithin n k d) (λ a b i. standing-within k d a b i) acts branches p r h (head-anywhere acts branches bytes p h r e))
+      finds-behind bytes p _ (programNode acts branches) _ (λ h r e. standing-program-behind k (programWithin n k d) (λ a b i. standing-within k d a b i) acts branches p r h (node-anywhere acts branches bytes p h r e))
 
   pub standing-program : (k p : ℕ) → Finds bytes p (λ c q. ProgramAt bytes n (c .program) p q) (program n k)
   unfolding program
   standing-program k p = standing-within k levels 0 0 p
 
--- A reply count ends inside the bytes.
-count-inside : (bytes : List ℕ) (p : ℕ) → Finds bytes p (λ m q. (p < q) × (q ≤ 8 * length bytes)) replyNumber
-unfolding replyNumber
-count-inside bytes p =
-    finds-field bytes p _ 4 (p + 4) refl _ (λ m e low. finds-check bytes (p + 4) _ (leb 1 m && leb m 8) 5 _ (λ t. finds-give bytes (p + 4) _ m (omega arith, low)))
-
+-- The kind of an action, a reply count and a first node end behind their beginning, and inside the bytes.
 module _ (bytes : List ℕ) (p : ℕ) where
   abbrev Inside : {A : Type 0} → A → ℕ → Type 0
   Inside a q = (p < q) × (q ≤ 8 * length bytes)
 
-  -- The first node of an action ends behind its beginning, and inside the bytes.
-  pub action-head-inside : Finds bytes p (λ a q. (p < q) × (q ≤ 8 * length bytes)) actionHead
-  unfolding actionHead kind
-  action-head-inside = finds-behind bytes p Inside kind actionHeadBehind (λ h r e. behind h r (kind-inside .found h r e))
-    where
-      kind-inside : Finds bytes p Inside kind
-      kind-inside =
-          finds-field bytes p Inside 1 (p + 1) refl _ (λ bit e low.
-          finds-if bytes (p + 1) Inside (eqb bit 0) _ _ (λ t. finds-give bytes (p + 1) Inside changes (omega arith, low)) (λ t. finds-give bytes (p + 1) Inside probes (omega arith, low)))
+  pub kind-inside : Finds bytes p (λ h q. (p < q) × (q ≤ 8 * length bytes)) kind
+  unfolding kind
+  kind-inside =
+      finds-field bytes p Inside 1 (p + 1) refl _ (λ bit e low.
+      finds-if bytes (p + 1) Inside (eqb bit 0) _ _ (λ t. finds-give bytes (p + 1) Inside changes (omega arith, low)) (λ t. finds-give bytes (p + 1) Inside probes (omega arith, low)))
 
-      behind : (h : Kind) (r : ℕ) → (p < r) × (r ≤ 8 * length bytes) → Finds bytes r Inside (actionHeadBehind h)
-      behind changes r in-bytes = unfold actionHeadBehind in (finds-give bytes r Inside change-head in-bytes)
-      behind probes r in-bytes = unfold actionHeadBehind in (finds-behind bytes r Inside replyNumber _ (λ m i e.
-          let w = count-inside bytes r .found m i e in
-          finds-give bytes i Inside (probe-head m) (omega (arith, in-bytes .0, w .0), w .1)))
+  pub total-inside : Finds bytes p (λ m q. (p < q) × (q ≤ 8 * length bytes)) replyTotal
+  unfolding replyTotal
+  total-inside =
+      finds-field bytes p Inside 4 (p + 4) refl _ (λ m e low. finds-check bytes (p + 4) Inside (leb 1 m && leb m mostReplies) 5 _ (λ t. finds-give bytes (p + 4) Inside m (omega arith, low)))
 
-  -- So does the first node of an epistemic formula, and of a program.
-  pub epistemic-head-inside : Finds bytes p (λ a q. (p + 2 ≤ q) × (q ≤ 8 * length bytes)) epistemicHead
-  unfolding epistemicHead
-  epistemic-head-inside =
+  -- The first node of an epistemic formula takes two bits at least.
+  pub epistemic-node-inside : Finds bytes p (λ a q. (p + 2 ≤ q) × (q ≤ 8 * length bytes)) epistemicNode
+  unfolding epistemicNode
+  epistemic-node-inside =
       finds-field bytes p _ 2 (p + 2) refl _ (λ tag e low.
-      finds-if bytes (p + 2) _ (eqb tag 0) _ _ (λ t. finds-give bytes (p + 2) _ known-head (omega arith, low))
-      (λ t. finds-if bytes (p + 2) _ (eqb tag 1) _ _ (λ u. finds-give bytes (p + 2) _ not-known-head (omega arith, low))
-      (λ u. finds-if bytes (p + 2) _ (eqb tag 2) _ _ (λ v. finds-give bytes (p + 2) _ all-of-head (omega arith, low))
-      (λ v. finds-give bytes (p + 2) _ any-of-head (omega arith, low)))))
+      finds-if bytes (p + 2) _ (eqb tag 0) _ _ (λ t. finds-give bytes (p + 2) _ known-node (omega arith, low))
+      (λ t. finds-if bytes (p + 2) _ (eqb tag 1) _ _ (λ u. finds-give bytes (p + 2) _ not-known-node (omega arith, low))
+      (λ u. finds-if bytes (p + 2) _ (eqb tag 2) _ _ (λ v. finds-give bytes (p + 2) _ all-of-node (omega arith, low))
+      (λ v. finds-give bytes (p + 2) _ any-of-node (omega arith, low)))))
 
-  pub program-head-inside : Finds bytes p (λ a q. (p < q) × (q ≤ 8 * length bytes)) (programHead 0 0)
-  unfolding programHead
-  program-head-inside =
+  pub program-node-inside : Finds bytes p (λ a q. (p < q) × (q ≤ 8 * length bytes)) (programNode 0 0)
+  unfolding programNode
+  program-node-inside =
       finds-field bytes p Inside 2 (p + 2) refl _ (λ tag e low.
-      finds-if bytes (p + 2) Inside (eqb tag 0) _ _ (λ t. finds-give bytes (p + 2) Inside end-head (omega arith, low))
+      finds-if bytes (p + 2) Inside (eqb tag 0) _ _ (λ t. finds-give bytes (p + 2) Inside end-node (omega arith, low))
       (λ t. finds-if bytes (p + 2) Inside (eqb tag 1) _ _
-      (λ u. finds-check bytes (p + 2) Inside (ltb 0 64) 11 _ (λ w. finds-field bytes (p + 2) Inside 5 (p + 7) (omega arith) _ (λ a g low′. finds-give bytes (p + 7) Inside (act-head a) (omega arith, low′))))
-      (λ u. finds-if bytes (p + 2) Inside (eqb tag 2) _ _ (λ v. finds-check bytes (p + 2) Inside (ltb 0 63) 11 _ (λ w. finds-give bytes (p + 2) Inside branch-head (omega arith, low)))
+      (λ u. finds-check bytes (p + 2) Inside (ltb 0 mostActs) 11 _ (λ w. finds-field bytes (p + 2) Inside 5 (p + 7) (omega arith) _ (λ a g low′. finds-give bytes (p + 7) Inside (act-node a) (omega arith, low′))))
+      (λ u. finds-if bytes (p + 2) Inside (eqb tag 2) _ _ (λ v. finds-check bytes (p + 2) Inside (ltb 0 mostBranches) 11 _ (λ w. finds-give bytes (p + 2) Inside branch-node (omega arith, low)))
       (λ v. finds-refuse bytes (p + 2) Inside 10))))
 
 module _ (bytes : List ℕ) (n : ℕ) where
   -- An objective formula ends behind its beginning, and inside the bytes.
   pub objective-inside : (theory : Bool) (f : Objective) (p q : ℕ) → ObjectiveAt bytes n theory f p q → (p < q) × (q ≤ 8 * length bytes)
-  objective-inside theory f p q e = let h = objective-onward n theory 16 bytes p .found f q e in (omega arith, h .1)
+  objective-inside theory f p q e = let h = objective-onward n theory deepest bytes p .found f q e in (omega arith, h .1)
 
   -- Replies that begin inside the bytes end inside.
   pub replies-inside : (fs : List Objective) (p q : ℕ) → p ≤ 8 * length bytes → RepliesAt bytes n fs p q → (p ≤ q) × (q ≤ 8 * length bytes)
@@ -187,12 +164,13 @@ module _ (bytes : List ℕ) (n : ℕ) where
   pub action-inside : (a : Action) (p q : ℕ) → ActionAt bytes n a p q → (p < q) × (q ≤ 8 * length bytes)
   unfolding ActionAt
   action-inside (change f) p q s =
-      let h = action-head-inside bytes p .found change-head (s .0) (s .1) in
+      let h = kind-inside bytes p .found changes (s .0) (s .1) in
       let x = objective-inside true f (s .0) q (s .2) in
       (omega arith, x .1)
   action-inside (probe fs) p q s =
-      let x = action-head-inside bytes p .found (probe-head (length fs)) (s .0) (s .1) in
-      let y = replies-inside fs (s .0) q (x .1) (s .2) in
+      let h = kind-inside bytes p .found probes (s .0) (s .1) in
+      let x = total-inside bytes (s .0) .found (length fs) (s .2) (s .3) in
+      let y = replies-inside fs (s .2) q (x .1) (s .4) in
       (omega arith, y .1)
 
   -- Actions that begin inside the bytes end inside.
@@ -208,20 +186,20 @@ module _ (bytes : List ℕ) (n : ℕ) where
   pub epistemic-inside : (f : Epistemic) (p q : ℕ) → EpistemicAt bytes n f p q → (p < q) × (q ≤ 8 * length bytes)
   unfolding EpistemicAt
   epistemic-inside (known f) p q s =
-      let h = epistemic-head-inside bytes p .found known-head (s .0) (s .1) in
+      let h = epistemic-node-inside bytes p .found known-node (s .0) (s .1) in
       let x = objective-inside false f (s .0) q (s .2) in
       (omega arith, x .1)
   epistemic-inside (not-known f) p q s =
-      let h = epistemic-head-inside bytes p .found not-known-head (s .0) (s .1) in
+      let h = epistemic-node-inside bytes p .found not-known-node (s .0) (s .1) in
       let x = objective-inside false f (s .0) q (s .2) in
       (omega arith, x .1)
   epistemic-inside (all-of f g) p q s =
-      let h = epistemic-head-inside bytes p .found all-of-head (s .0) (s .1) in
+      let h = epistemic-node-inside bytes p .found all-of-node (s .0) (s .1) in
       let x = epistemic-inside f (s .0) (s .2) (s .3) in
       let y = epistemic-inside g (s .2) q (s .4) in
       (omega arith, y .1)
   epistemic-inside (any-of f g) p q s =
-      let h = epistemic-head-inside bytes p .found any-of-head (s .0) (s .1) in
+      let h = epistemic-node-inside bytes p .found any-of-node (s .0) (s .1) in
       let x = epistemic-inside f (s .0) (s .2) (s .3) in
       let y = epistemic-inside g (s .2) q (s .4) in
       (omega arith, y .1)
@@ -229,13 +207,13 @@ module _ (bytes : List ℕ) (n : ℕ) where
   -- A program ends behind its beginning, and inside the bytes.
   pub program-inside : (program : Program) (p q : ℕ) → ProgramAt bytes n program p q → (p < q) × (q ≤ 8 * length bytes)
   unfolding ProgramAt
-  program-inside end p q s = program-head-inside bytes p .found end-head q s
+  program-inside end p q s = program-node-inside bytes p .found end-node q s
   program-inside (act a rest) p q s =
-      let h = program-head-inside bytes p .found (act-head a) (s .0) (s .1) in
+      let h = program-node-inside bytes p .found (act-node a) (s .0) (s .1) in
       let x = program-inside rest (s .0) q (s .2) in
       (omega arith, x .1)
   program-inside (branch f y z rest) p q s =
-      let h = program-head-inside bytes p .found branch-head (s .0) (s .1) in
+      let h = program-node-inside bytes p .found branch-node (s .0) (s .1) in
       let parts = s .2 in
       let a = epistemic-inside f (s .0) (parts .then-at) (parts .condition-stands) in
       let b = program-inside y (parts .then-at) (parts .else-at) (parts .then-stands) in
@@ -244,13 +222,13 @@ module _ (bytes : List ℕ) (n : ℕ) where
       (omega arith, d .1)
 
 -- The fields of a sheet stand where they are read.
-fields-standing : (bytes : List ℕ) → length bytes ≤ 1024 → Finds bytes 0 (λ sheet q. isPadding bytes q ≡ true → Standing bytes sheet) sheetFields
+fields-standing : (bytes : List ℕ) → length bytes ≤ mostBytes → Finds bytes 0 (λ sheet q. isPadding bytes q ≡ true → Standing bytes sheet) (sheetFields isEdition)
 unfolding isPadding
 fields-standing bytes short =
-    finds-behind bytes 0 Q header body (λ h actions-at hh.
+    finds-behind bytes 0 Q (header isEdition) body (λ h actions-at hh.
     finds-behind bytes actions-at Q (actionList (h .facts) (h .actions)) _ (λ actions start-at ha.
-    finds-behind bytes start-at Q (objective (h .facts) false 16) _ (λ start goal-at hs.
-    finds-behind bytes goal-at Q (epistemic (h .facts) 16) _ (λ goal program-at hg.
+    finds-behind bytes start-at Q (objective (h .facts) false deepest) _ (λ start goal-at hs.
+    finds-behind bytes goal-at Q (epistemic (h .facts) deepest) _ (λ goal program-at hg.
     finds-behind bytes program-at Q (program (h .facts) (h .actions)) _ (λ c end-at hp.
     finds-give bytes end-at Q _ (λ padded.
     let v = both-true (ltb (8 * length bytes - end-at) 8) _ padded in
@@ -259,6 +237,7 @@ fields-standing bytes short =
     record {
       short = short;
       actions-at = actions-at;
+      edition = h .edition;
       header-read = rw (list-few (h .facts) (h .actions) bytes actions-at actions start-at ha .0) hh;
       start-at = start-at;
       goal-at = goal-at;
@@ -267,7 +246,7 @@ fields-standing bytes short =
       actions-stand = standing-actions bytes (h .facts) (h .actions) actions-at .found actions start-at ha;
       start-stands = hs;
       goal-read = hg;
-      goal-stands = standing-epistemic bytes (h .facts) 16 (omega arith) goal-at .found goal program-at hg;
+      goal-stands = standing-epistemic bytes (h .facts) deepest (omega arith) goal-at .found goal program-at hg;
       program-stands = stand;
       inside = i .1;
       spare = omega (arith, ltb-true (8 * length bytes - end-at) 8 (v .0));
@@ -282,9 +261,3 @@ pub accepted-standing : (bytes : List ℕ) (sheet : Sheet) → reading bytes ≡
 accepted-standing bytes sheet e =
     let how = accepted-how bytes sheet e in
     fields-standing bytes (how .short) .found sheet (how .position) (how .fields) (accepted-padding bytes sheet how)
-
--- What `objective_states` promises of a formula that stands: its set in the view, and where it ends.
-pub standing-evaluated : (bytes : List ℕ) (n : ℕ) (view : View) (f : Objective) (p q : ℕ) → length bytes ≤ 1024 → ObjectiveAt bytes n (inTheory view) f p q
-    → mapped (table view) (ofSheet (objective n (inTheory view) deepest) bytes p) ≡ got (table view f) q
-unfolding mapped
-standing-evaluated bytes n view f p q short e = ap (mapped (table view)) (sym (sheet-short (objective n (inTheory view) deepest) bytes p short e))

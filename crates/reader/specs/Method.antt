@@ -1,0 +1,70 @@
+-- The method of the reader's inner functions, for their contracts: positions instead of values, sets of states instead of lists. An auditor of the promises needs none of it.
+use Prim.Native.Nat.{ℕ}
+use mathlib.Core.List.{List}
+use mathlib.Core.Bool.{Bool, _&&_, _||_, Bool·beq}
+use lib.Dec.{eqb}
+use Rattle.lists.specs.Lists.{if_then_else_, exists}
+use Rattle.states.specs.declared.States.{States}
+use Rattle.states.specs.Sets.{setOf}
+use Rattle.format.specs.Syntax.{Objective, Sheet}
+use Rattle.format.specs.Truth.{factIn, holds}
+use Rattle.format.specs.Format.{Answer, accepted, refused, Read, got, fault, ProgramRead}
+use Rattle.reader.specs.Answers.{numberOf, statesIn}
+use Rattle.reader.specs.declared.bits.Field.{Field}
+use Rattle.reader.specs.declared.formula.View.{View}
+use Rattle.reader.specs.declared.formula.Walked.{Walked}
+use Rattle.reader.specs.declared.program.Counted.{Counted}
+
+-- What the code finds from a position on: a number; only where it ends; the nodes counted so far.
+unfoldable pub fieldRead : Field → Read ℕ
+fieldRead (Field.Value v p) = got v p
+fieldRead Field.Cut = fault 2
+
+unfoldable pub endRead : Walked → Read (Unit {0})
+unfolding numberOf
+endRead (Walked.To p) = got tt p
+endRead (Walked.Refused r) = fault (numberOf r)
+
+unfoldable pub countRead : Counted → Read (ℕ × ℕ)
+unfolding numberOf
+countRead (Counted.To p) = got (p .acts, p .branches) (p .at)
+countRead (Counted.Refused r) = fault (numberOf r)
+
+-- What the tests on what stands at a position tell: where it ends, or a refusal.
+unfoldable pub passedTo : Walked → Answer ℕ
+unfolding numberOf
+passedTo (Walked.To p) = accepted p
+passedTo (Walked.Refused r) = refused (numberOf r)
+
+-- What of a value is kept: nothing but where it ends; the nodes of a program; the states in which the start formula holds; those in which one of some formulas does.
+unfoldable pub ending : {A : Type 0} → A → Unit {0}
+ending a = tt
+
+unfoldable pub counts : ProgramRead → ℕ × ℕ
+counts c = (c .acts, c .branches)
+
+unfoldable pub startSet : Sheet → States
+unfolding statesIn
+startSet sheet = statesIn View.States (sheet .start)
+
+unfoldable pub someHolds : List Objective → States
+someHolds fs = setOf (λ s. exists (λ f. holds f s) fs)
+
+-- The state and the next state at which a view has a formula evaluated for its state t.
+unfoldable pub fromOf : View → ℕ → ℕ
+fromOf View.States t = t
+fromOf (View.Next s) t = s
+
+unfoldable pub toOf : View → ℕ → ℕ
+toOf View.States t = t
+toOf (View.Next s) t = t
+
+-- The states of a view in which fact i is true; as a new fact, it is one of the next state.
+unfoldable pub factStates : (fresh : Bool) → View → (i : ℕ) → States
+unfolding setOf factIn fromOf toOf if_then_else_
+factStates fresh view i = setOf (λ t. factIn (if fresh then toOf view t else fromOf view t) i)
+
+-- The truth of a formula of two parts, by its tag: 5 and; 6 or; 7 equivalence.
+unfoldable pub joined : (tag : ℕ) (x y : Bool) → Bool
+unfolding if_then_else_
+joined tag x y = if eqb tag 5 then x && y else if eqb tag 6 then x || y else Bool·beq x y
