@@ -7,10 +7,10 @@ use native.Mathlib.Omega.{arith}
 use lib.Dec.{leb, ltb, eqb}
 use lib.ListN.{length}
 use Rattle.lists.specs.Lists.{if_then_else_}
-use Rattle.format.specs.Syntax.{Objective, bottom, top, fact, new-fact, negation, conjunction, disjunction, equivalence, Epistemic, known, not-known, all-of, any-of, end, act, branch, Action, change, probe, Sheet}
+use Rattle.format.specs.Syntax.{Objective, bottom, top, fact, new-fact, negation, conjunction, disjunction, equivalence, Epistemic, known, not-known, all-of, any-of, end, Action, change, probe, Sheet}
 use Rattle.format.specs.Bits.{bitsAt}
 use Rattle.format.specs.Truth.{states, moves}
-use Rattle.format.specs.Format.{Answer, refused, Read, got, fault, Reader, andThen, _>>=_, give, refuse, check, field, factNumber, objectiveBehind, objective, EpistemicNode, known-node, not-known-node, all-of-node, any-of-node, epistemicNode, epistemicBehind, epistemic, objectives, Kind, changes, probes, kind, replyTotal, theory, replies, actionBehind, action, actionList, ProgramRead, ProgramNode, end-node, act-node, branch-node, programNode, programBehind, programWithin, levels, program, mostBytes, mostFacts, mostReplies, deepest, mostActs, mostBranches, Header, header, body, sheetFields, isPadding, hasStart, leadsOn, hasReply, unless, actionFaults, faults, decided, afterFields, ofSheet, readingBy, isEdition, reading}
+use Rattle.format.specs.Format.{refused, Read, got, fault, Reader, andThen, _>>=_, give, refuse, check, field, factNumber, objectiveBehind, objective, EpistemicNode, known-node, not-known-node, all-of-node, any-of-node, epistemicNode, epistemicBehind, epistemic, objectives, Kind, changes, probes, kind, replyTotal, theory, replies, actionBehind, action, actionList, ProgramRead, ProgramNode, end-node, act-node, branch-node, programNode, programBehind, programWithin, levels, program, mostBytes, mostFacts, mostReplies, deepest, mostActs, mostBranches, Header, header, body, sheetFields, isPadding, hasStart, leadsOn, hasReply, unless, actionFaults, faults, decided, afterFields, ofSheet, readingBy, isEdition, reading}
 
 -- One of the numbers.
 abbrev pub IsNumber : ℕ → Type 0

@@ -4,10 +4,10 @@ use mathlib.Core.Path.{_≡_}
 use mathlib.Core.List.{List}
 use mathlib.Core.Bool.{Bool, true, false, _&&_}
 use native.Mathlib.Omega.{arith}
-use lib.Dec.{leb, ltb, eqb}
+use lib.Dec.{leb, eqb}
 use borrow.Author.Tests.{le-leb, lt-leb, le-ltb, lt-ltb}
 use Rattle.lists.specs.Lists.{if_then_else_}
-use Rattle.format.specs.Format.{Read, got, fault, andThen, _>>=_, give, refuse, check, field, mostFacts, mostReplies, mostActs, mostBranches, changes, probes, kind, replyTotal, known-node, not-known-node, all-of-node, any-of-node, epistemicNode, end-node, act-node, branch-node, programNode, header}
+use Rattle.format.specs.Format.{got, fault, andThen, _>>=_, give, refuse, check, field, mostFacts, mostReplies, mostActs, mostBranches, changes, probes, kind, replyTotal, known-node, not-known-node, all-of-node, any-of-node, epistemicNode, end-node, act-node, branch-node, programNode, header}
 
 -- The test "1 to 8".
 module _ (m : ℕ) where

@@ -62,12 +62,6 @@ abbrev pub Same : {A : Type 0} → Reader A → Reader A → Type 0
 Same m m′ = (bytes : List ℕ) (p : ℕ) → m bytes p ≡ m′ bytes p
 
 module _ {A : Type 0} where
-  -- The choice between two readers.
-  pub same-if : (b : Bool) (m m′ n n′ : Reader A) → Same m m′ → Same n n′ → Same (if b then m else n) (if b then m′ else n′)
-  unfolding if_then_else_
-  same-if true m m′ n n′ x y = x
-  same-if false m m′ n n′ x y = y
-
   -- Going on only if a test passes.
   pub same-check : (b : Bool) (r : ℕ) (m m′ : Reader A) → (b ≡ true → Same m m′) → Same (check b r m) (check b r m′)
   unfolding check

@@ -1,13 +1,13 @@
--- Laws of the formulas that specs/Format.antt reads: more levels read them alike, and they end inside the bytes. Assumes nothing.
+-- Laws of the objective formulas that specs/Format.antt reads: more levels read them alike, and they end inside the bytes. Assumes nothing.
 use Prim.Native.Nat.{ℕ, zero, suc, _+_, _*_, _≤_}
 use mathlib.Core.Path.{_≡_, refl}
 use mathlib.Core.List.{List}
-use mathlib.Core.Bool.{Bool, false}
+use mathlib.Core.Bool.{Bool}
 use native.Mathlib.Omega.{arith}
 use lib.Dec.{ltb, eqb}
 use lib.ListN.{length}
-use Rattle.format.specs.Syntax.{Objective, bottom, top, fact, new-fact, negation, conjunction, disjunction, equivalence, Epistemic, known, not-known, all-of, any-of}
-use Rattle.format.specs.Format.{got, Reader, _>>=_, give, field, factNumber, objectiveBehind, objective, EpistemicNode, known-node, not-known-node, all-of-node, any-of-node, epistemicNode, epistemicBehind, epistemic}
+use Rattle.format.specs.Syntax.{Objective, bottom, top, fact, new-fact, negation, conjunction, disjunction, equivalence}
+use Rattle.format.specs.Format.{got, Reader, _>>=_, give, field, factNumber, objectiveBehind, objective}
 use Rattle.format.proofs.FormatLaws.{Finds, finds-give, finds-refuse, finds-if, finds-check, finds-behind, Keeps, keeps-if, keeps-refuse, keeps-behind, keeps-levels, finds-field}
 
 -- What is read alike is kept.
@@ -43,26 +43,6 @@ objective-more n theory (suc d) = keeps-behind (field 3) (field 3) _ _ (kept (fi
 -- An objective formula that is read is read alike with more levels.
 pub objective-levels : (n : ℕ) (theory : Bool) (d d′ : ℕ) → d ≤ d′ → Keeps (objective n theory d) (objective n theory d′)
 objective-levels n theory = keeps-levels (objective n theory) (objective-more n theory)
-
--- One level of an epistemic formula, whose parts other readers keep.
-epistemic-behind-keeps : (inside inside′ : Reader Objective) (part part′ : Reader Epistemic) → Keeps inside inside′ → Keeps part part′ → (h : EpistemicNode)
-    → Keeps (epistemicBehind inside part h) (epistemicBehind inside′ part′ h)
-unfolding epistemicBehind
-epistemic-behind-keeps inside inside′ part part′ within keeps known-node = keeps-behind inside inside′ _ _ within (λ f. kept (give (known f)))
-epistemic-behind-keeps inside inside′ part part′ within keeps not-known-node = keeps-behind inside inside′ _ _ within (λ f. kept (give (not-known f)))
-epistemic-behind-keeps inside inside′ part part′ within keeps all-of-node = both-keeps part part′ all-of keeps
-epistemic-behind-keeps inside inside′ part part′ within keeps any-of-node = both-keeps part part′ any-of keeps
-
-epistemic-more : (n d : ℕ) → Keeps (epistemic n d) (epistemic n (suc d))
-unfolding epistemic
-epistemic-more n zero = keeps-refuse 8 (epistemic n 1)
-epistemic-more n (suc d) =
-    keeps-behind epistemicNode epistemicNode _ _ (kept epistemicNode)
-    (epistemic-behind-keeps (objective n false d) (objective n false (suc d)) (epistemic n d) (epistemic n (suc d)) (objective-more n false d) (epistemic-more n d))
-
--- An epistemic formula that is read is read alike with more levels.
-pub epistemic-levels : (n d d′ : ℕ) → d ≤ d′ → Keeps (epistemic n d) (epistemic n d′)
-epistemic-levels n = keeps-levels (epistemic n) (epistemic-more n)
 
 -- From a position inside the bytes on, and still inside.
 abbrev Onward : {A : Type 0} → List ℕ → ℕ → A → ℕ → Type 0

@@ -1,16 +1,16 @@
 -- Laws of reading by what is found: another value made of it, a sheet by its length, a fact number by its field, and formulas, actions and programs by their first nodes. Assumes nothing.
-use Prim.Native.Nat.{ℕ, zero, suc, _+_, _-_, _<_, _≤_}
+use Prim.Native.Nat.{ℕ, zero, suc, _-_, _<_, _≤_}
 use mathlib.Core.Path.{_≡_, refl, sym, ap, _∙_}
 use mathlib.Core.List.{List, [], _∷_}
-use mathlib.Core.Bool.{Bool, true, false}
+use mathlib.Core.Bool.{Bool, false}
 use native.Mathlib.Omega.{arith}
 use native.Mathlib.Numerals.{sub-one}
-use lib.Dec.{leb, ltb}
+use lib.Dec.{ltb}
 use lib.ListN.{length}
 use borrow.Author.Tests.{lt-ltb, le-ltb, le-leb, lt-leb}
 use Rattle.lists.specs.Lists.{if_then_else_}
-use Rattle.format.specs.Syntax.{Objective, Epistemic, known, not-known, all-of, any-of, Action, change, probe, Program, end, act, branch}
-use Rattle.format.specs.Format.{Read, got, fault, Reader, andThen, _>>=_, mapped, give, refuse, check, field, mostBytes, deepest, factNumber, objectiveBehind, objective, EpistemicNode, known-node, not-known-node, all-of-node, any-of-node, epistemicNode, epistemicBehind, epistemic, objectives, Kind, changes, probes, kind, replyTotal, theory, replies, actionBehind, action, actionList, ProgramRead, ProgramNode, end-node, act-node, branch-node, programNode, programBehind, programWithin, ofSheet}
+use Rattle.format.specs.Syntax.{Objective, Epistemic, known, not-known, all-of, any-of, Action, change, probe, end}
+use Rattle.format.specs.Format.{Read, got, fault, Reader, andThen, _>>=_, mapped, give, refuse, check, field, mostBytes, deepest, factNumber, objectiveBehind, objective, EpistemicNode, known-node, not-known-node, all-of-node, any-of-node, epistemicNode, epistemicBehind, epistemic, objectives, changes, probes, kind, replyTotal, theory, replies, actionBehind, action, actionList, ProgramNode, programNode, programBehind, programWithin, ofSheet}
 use Rattle.format.proofs.FormatLaws.{Behind, got-behind, behind-got, behind-fault}
 
 module _ {A B : Type 0} (f : A → B) where

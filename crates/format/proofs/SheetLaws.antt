@@ -8,11 +8,11 @@ use native.Mathlib.Omega.{arith}
 use lib.Dec.{leb, ltb, eqb}
 use lib.ListN.{length, getD, List·getD-eq-default}
 use borrow.Author.Tests.{leb-true, ltb-true, ltb-false, eq-eqb}
-use Rattle.lists.specs.Lists.{if_then_else_, upFrom, below, every, exists}
+use Rattle.lists.specs.Lists.{if_then_else_, upFrom, below, exists}
 use Rattle.lists.proofs.ListLaws.{not-both, both-true, and-both, mem-flat, every-mem, mem-every, exists-mem, mem-exists}
 use Rattle.format.specs.Syntax.{Objective, bottom, top, fact, new-fact, negation, conjunction, disjunction, equivalence, Epistemic, known, not-known, all-of, any-of, Program, end, act, branch, Action, change, probe, replyCount, actionNodes, branchNodes, Sheet, actionOf}
 use Rattle.format.specs.Truth.{isState, states, truth, holds, moves, replyHolds, allowed}
-use Rattle.format.specs.Format.{Answer, accepted, refused, Read, got, fault, Reader, andThen, _>>=_, give, check, field, factNumber, objectiveBehind, objective, EpistemicNode, known-node, not-known-node, all-of-node, any-of-node, epistemicNode, epistemicBehind, epistemic, objectives, Kind, changes, probes, kind, replyTotal, theory, replies, actionBehind, action, actionList, ProgramRead, ProgramNode, end-node, act-node, branch-node, programNode, programBehind, programWithin, levels, program, mostBytes, mostFacts, mostReplies, deepest, mostActs, mostBranches, Header, header, body, sheetFields, isPadding, hasStart, leadsOn, hasReply, unless, actionFaults, faults, decided, afterFields, ofSheet, readingBy, isEdition, reading}
+use Rattle.format.specs.Format.{accepted, refused, Read, got, fault, Reader, andThen, _>>=_, give, field, factNumber, objectiveBehind, objective, EpistemicNode, known-node, not-known-node, all-of-node, any-of-node, epistemicNode, epistemicBehind, epistemic, objectives, Kind, changes, probes, kind, replyTotal, theory, replies, actionBehind, action, actionList, ProgramRead, ProgramNode, end-node, act-node, branch-node, programNode, programBehind, programWithin, levels, program, mostBytes, mostFacts, mostReplies, deepest, mostActs, mostBranches, Header, header, body, sheetFields, isPadding, hasStart, leadsOn, hasReply, unless, actionFaults, faults, decided, afterFields, ofSheet, readingBy, isEdition, reading}
 use Rattle.format.proofs.StateLaws.{state-listed, listed-state}
 use Rattle.format.proofs.FormatLaws.{Gives, gives-give, gives-refuse, gives-if, gives-check, gives-behind, gives-any, field-below, NumbersBelow, Counts, program-counts}
 

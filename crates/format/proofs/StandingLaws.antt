@@ -1,6 +1,6 @@
 -- The parts of an accepted sheet stand where specs/Standing.antt says, and stay inside the bytes. Assumes nothing.
 use Prim.Native.Nat.{ℕ, zero, suc, _+_, _-_, _*_, _≤_, _<_}
-use mathlib.Core.Path.{_≡_, refl, sym, ap, _∙_}
+use mathlib.Core.Path.{_≡_, refl}
 use mathlib.Core.List.{List, [], _∷_}
 use mathlib.Core.Bool.{Bool, true, false, _&&_}
 use native.Mathlib.Omega.{arith}
@@ -9,9 +9,9 @@ use lib.ListN.{length}
 use borrow.Author.Tests.{ltb-true}
 use Rattle.lists.proofs.ListLaws.{both-true}
 use Rattle.format.specs.Syntax.{Objective, Epistemic, known, not-known, all-of, any-of, Program, end, act, branch, Action, change, probe, Sheet}
-use Rattle.format.specs.Format.{accepted, got, Reader, _>>=_, give, field, deepest, objective, EpistemicNode, known-node, not-known-node, all-of-node, any-of-node, epistemicNode, epistemicBehind, epistemic, objectives, Kind, changes, probes, kind, replyTotal, theory, replies, actionBehind, action, actionList, ProgramRead, ProgramNode, end-node, act-node, branch-node, programNode, programBehind, programWithin, levels, program, Header, header, body, isEdition, sheetFields, isPadding, mostBytes, mostReplies, mostActs, mostBranches, reading}
+use Rattle.format.specs.Format.{accepted, got, Reader, deepest, objective, EpistemicNode, known-node, not-known-node, all-of-node, any-of-node, epistemicNode, epistemicBehind, epistemic, objectives, Kind, changes, probes, kind, replyTotal, theory, replies, actionBehind, action, actionList, ProgramRead, ProgramNode, end-node, act-node, branch-node, programNode, programBehind, programWithin, levels, program, header, body, isEdition, sheetFields, isPadding, mostBytes, mostReplies, mostActs, mostBranches, reading}
 use Rattle.format.specs.Standing.{ObjectiveAt, RepliesAt, ActionAt, ActionsAt, EpistemicAt, ProgramAt, Standing}
-use Rattle.format.proofs.FormatLaws.{Finds, finds-give, finds-refuse, finds-if, finds-check, finds-behind, finds-field, got-behind, behind-got, node-anywhere}
+use Rattle.format.proofs.FormatLaws.{Finds, finds-give, finds-refuse, finds-if, finds-check, finds-behind, finds-field, got-behind, node-anywhere}
 use Rattle.format.proofs.FormulaLaws.{objective-levels, objective-onward}
 use Rattle.format.proofs.SheetLaws.{objectives-long, list-few, accepted-how, accepted-padding}
 

@@ -4,7 +4,7 @@ use mathlib.Core.Path.{_≡_, refl, sym, ap, _∙_}
 use mathlib.Core.List.{List, [], _∷_, flatMap}
 use mathlib.Core.Bool.{Bool, true, false, _&&_}
 use native.Mathlib.Omega.{arith}
-use lib.Dec.{ltb, eqb}
+use lib.Dec.{eqb}
 use lib.ListN.{length}
 use borrow.Author.Tests.{lt-ltb, le-ltb}
 use Rattle.lists.specs.Lists.{exists, nonempty}
@@ -15,9 +15,9 @@ use Rattle.states.proofs.SetLaws.{member-setOf, members-setOf, members-mem, mem
 use Rattle.format.specs.Syntax.{Objective, Action, Sheet}
 use Rattle.format.specs.Bits.{bitsOnto, bitsAt}
 use Rattle.format.specs.Truth.{inSpace, spaceOf, states, truth, holds}
-use Rattle.format.specs.Format.{Answer, accepted, refused, Read, got, fault, mapped, _>>=_, give, mostBytes, mostFacts, deepest, objective, epistemic, actionList, ProgramRead, programWithin, levels, program, isEdition, Header, header, body, isPadding, hasStart, unless, actionFaults, faults, decided, afterFields, ofSheet, reading}
+use Rattle.format.specs.Format.{Answer, refused, Read, got, fault, mapped, mostBytes, mostFacts, deepest, objective, epistemic, actionList, ProgramRead, programWithin, levels, program, isEdition, Header, header, body, isPadding, hasStart, unless, actionFaults, faults, decided, afterFields, ofSheet, reading}
 use Rattle.format.proofs.FormatLaws.{Finds, finds-give, finds-behind, behind-got, behind-fault}
-use Rattle.format.proofs.ReaderLaws.{mapped-got, mapped-fault, mapped-give, give-mapped}
+use Rattle.format.proofs.ReaderLaws.{mapped-got, mapped-fault, mapped-give}
 use Rattle.format.proofs.SheetLaws.{program-is, reading-refused, header-short, header-limits, reading-body}
 use Rattle.format.proofs.StateLaws.{space-bytes}
 use Rattle.reader.specs.Answers.{withoutValue, spaced, statesIn}

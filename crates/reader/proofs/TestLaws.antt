@@ -15,17 +15,15 @@ use Rattle.states.specs.Sets.{member, setOf, members}
 use Rattle.states.proofs.SetLaws.{member-setOf, set-cong, members-mem, mem-members}
 use Rattle.format.specs.Syntax.{Objective, bottom, Action, change, probe, replyCount}
 use Rattle.format.specs.Truth.{truth, holds, replyHolds}
-use Rattle.format.specs.Format.{Answer, accepted, refused, Read, got, fault, mapped, deepest, objective, objectives, changes, probes, kind, theory, replies, action, actionList, unless, leadsOn, hasReply, actionFaults, decided}
-use Rattle.format.proofs.ReaderLaws.{mapped-got, mapped-fault, mapped-same, mapped-twice, also-refused, made-value, never-refused, action-refused, action-change, action-probe, objectives-none, objectives-more, objectives-refused, actions-none, actions-more, actions-refused, actions-split}
+use Rattle.format.specs.Format.{Answer, accepted, refused, got, fault, mapped, deepest, objective, objectives, changes, probes, kind, theory, replies, action, actionList, unless, leadsOn, hasReply, actionFaults, decided}
+use Rattle.format.proofs.ReaderLaws.{mapped-got, mapped-fault, mapped-same, mapped-twice, action-refused, action-change, action-probe, objectives-none, objectives-more, objectives-refused, actions-none, actions-more, actions-refused, actions-split}
 use Rattle.format.proofs.SheetLaws.{change-faults, probe-faults}
-use Rattle.reader.specs.Answers.{numberOf, setRead, kindRead, statesIn}
+use Rattle.reader.specs.Answers.{numberOf, statesIn}
 use Rattle.reader.specs.Method.{endRead, passedTo, ending, someHolds}
 use Rattle.reader.proofs.EndLaws.{ends-mapped}
 use Rattle.reader.specs.declared.refusal.Refusal.{Refusal}
 use Rattle.reader.specs.declared.formula.View.{View}
 use Rattle.reader.specs.declared.formula.Walked.{Walked}
-use Rattle.reader.specs.declared.formula.Evaluated.{Evaluated}
-use Rattle.reader.specs.declared.nodes.ActionKind.{ActionKind}
 
 -- The states of a set and those in which one of some formulas holds.
 abbrev pub joinedTo : States → List Objective → States

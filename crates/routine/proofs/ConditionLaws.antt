@@ -1,18 +1,16 @@
 -- Laws of epistemic formulas: how the first node tells the parts of one that is read, how many atoms it has, and how its tests and sets are written part by part.
 -- Assumes nothing.
-use Prim.Native.Nat.{ℕ, zero, suc, _+_, _-_, _*_, _≤_, _<_}
-use mathlib.Core.Path.{_≡_, refl, sym, ap, subst, _∙_}
+use Prim.Native.Nat.{ℕ, _+_, _-_, _*_, _≤_, _<_}
+use mathlib.Core.Path.{_≡_, sym, ap, subst, _∙_}
 use mathlib.Core.List.{List, _++_, flatMap}
 use mathlib.Core.Bool.{false}
 use native.Mathlib.Omega.{arith}
-use lib.Dec.{eqb}
 use lib.ListN.{length}
 use Rattle.format.specs.Syntax.{Objective, Epistemic, known, not-known, all-of, any-of}
 use Rattle.format.specs.Format.{Read, got, fault, objective, EpistemicNode, known-node, not-known-node, all-of-node, any-of-node, epistemicNode, epistemicBehind, epistemic, ofSheet, mostBytes, deepest}
 use Rattle.format.proofs.ReaderLaws.{sheet-short, epistemic-split, known-split, not-known-split, all-of-split, any-of-split}
 use Rattle.format.proofs.StandingLaws.{epistemic-inside, standing-epistemic}
 use Rattle.format.specs.Standing.{ObjectiveAt}
-use Rattle.format.proofs.FormatLaws.{Finds, finds-give, finds-refuse, finds-behind}
 use Rattle.format.proofs.FormulaLaws.{objective-levels}
 use Rattle.routine.specs.declared.conditions.Extent.{Extent}
 use Rattle.routine.specs.Memory.{write, words, cells}

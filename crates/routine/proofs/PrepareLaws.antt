@@ -1,11 +1,10 @@
 -- The parts of an accepted sheet, written one after the other, are its tables.
 use Rattle.format.proofs.StateLaws.{state-test}
-use Prim.Native.Nat.{ℕ, _+_, _*_, _^_, _<_, _≤_}
+use Prim.Native.Nat.{ℕ, _+_, _*_, _<_, _≤_}
 use mathlib.Core.Path.{_≡_, refl, ap, ap₂, sym, subst, _∙_}
 use mathlib.Core.List.{List, [], _∷_, _++_, flatMap}
 use mathlib.Core.Bool.{Bool, true, false, _&&_}
 use native.Mathlib.Omega.{arith}
-use lib.Dec.{ltb}
 use lib.ListN.{length}
 use Rattle.lists.proofs.ListLaws.{made-same}
 use Rattle.states.specs.declared.States.{States}
@@ -13,7 +12,7 @@ use Rattle.states.specs.Sets.{member, setOf}
 use Rattle.states.proofs.SetLaws.{member-setOf, set-cong}
 use Rattle.format.specs.Syntax.{Action, change, probe, replyCount, Sheet}
 use Rattle.format.specs.Truth.{isState, truth, holds, inSpace}
-use Rattle.format.specs.Format.{Answer, accepted, refused, Read, got, fault, epistemic, reading, mapped, Header, header, ofSheet, isEdition, mostBytes}
+use Rattle.format.specs.Format.{Answer, accepted, refused, Read, got, fault, epistemic, reading, mapped, Header, header, ofSheet, isEdition}
 use Rattle.format.proofs.ReaderLaws.{sheet-short}
 use Rattle.format.proofs.StandingLaws.{accepted-standing}
 use Rattle.format.specs.Standing.{Standing, ObjectiveAt, ActionsAt, ProgramAt}

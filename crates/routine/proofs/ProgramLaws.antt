@@ -4,14 +4,13 @@ use Prim.Native.Nat.{ℕ, suc, _+_, _-_, _*_, _≤_, _<_}
 use mathlib.Core.Path.{_≡_, refl, sym, ap, ap₂, subst, _∙_}
 use mathlib.Core.List.{List, [], _∷_, _++_, flatMap, append-assoc}
 use native.Mathlib.Omega.{arith}
-use lib.Dec.{ltb, eqb}
 use lib.ListN.{length, length-append}
 use Rattle.format.specs.Syntax.{Epistemic, Program, end, act, branch}
-use Rattle.format.specs.Format.{Read, got, fault, field, ProgramNode, end-node, act-node, branch-node, programNode, ofSheet, mostBytes}
+use Rattle.format.specs.Format.{Read, got, fault, ProgramNode, end-node, act-node, branch-node, programNode, ofSheet, mostBytes}
 use Rattle.format.proofs.ReaderLaws.{sheet-short}
 use Rattle.format.proofs.StandingLaws.{epistemic-inside, program-node-inside, program-inside}
 use Rattle.format.specs.Standing.{BranchAt, EpistemicAt, EpistemicRead, ProgramAt}
-use Rattle.format.proofs.FormatLaws.{Gives, gives-give, gives-refuse, gives-if, gives-check, gives-behind, gives-any, field-below, node-numbered}
+use Rattle.format.proofs.FormatLaws.{node-numbered}
 use Rattle.routine.specs.declared.memory.Node.{Node}
 use Rattle.routine.specs.declared.conditions.Extent.{Extent}
 use Rattle.routine.specs.declared.program.Filled.{Filled}

@@ -6,10 +6,10 @@ use mathlib.Core.List.{List, [], _∷_, _++_, map-append, List·Memᴰ, List·Me
 use mathlib.Core.Bool.{Bool, true, false}
 use native.Mathlib.Omega.{arith}
 use lib.ListN.{length, length-map}
-use Rattle.lists.specs.Lists.{exists, below}
-use Rattle.lists.proofs.ListLaws.{not-both, and-both, every-mem, exists-mem, mem-exists}
-use Rattle.format.specs.Syntax.{Program, end, act, branch, Action, replyCount, Sheet, actionOf}
-use Rattle.format.specs.Truth.{isState, states, holds, allowed}
+use Rattle.lists.specs.Lists.{exists}
+use Rattle.lists.proofs.ListLaws.{not-both, exists-mem, mem-exists}
+use Rattle.format.specs.Syntax.{Program, end, act, branch, replyCount, Sheet, actionOf}
+use Rattle.format.specs.Truth.{isState, states, holds}
 use Rattle.format.specs.Format.{accepted, reading, hasStart}
 use Rattle.format.proofs.StateLaws.{listed-state, state-listed, state-byte}
 use Rattle.format.proofs.FormatLaws.{NumbersBelow}

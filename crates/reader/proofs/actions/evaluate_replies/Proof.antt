@@ -3,7 +3,7 @@ use mathlib.Core.Path.{sym, ap, _∙_}
 use denote.Ref.{now}
 use Rattle.format.specs.Format.{mapped}
 use Rattle.format.proofs.ReaderLaws.{replies-refused, replies-counted}
-use Rattle.reader.specs.Answers.{numberOf, setRead, totalRead}
+use Rattle.reader.specs.Answers.{setRead, totalRead}
 use Rattle.reader.specs.Method.{someHolds}
 use borrow.Author.Needs.{needs}
 use Rattle.reader.proofs.actions.evaluate_replies.Statement.{statement}

@@ -5,8 +5,7 @@ use mathlib.Core.Bool.{true, false}
 use native.Mathlib.Omega.{arith}
 use borrow.Author.Needs.{needs}
 use borrow.Author.Tests.{not-true, not-false}
-use Rattle.states.specs.declared.States.{States}
-use Rattle.states.specs.Sets.{member, members}
+use Rattle.states.specs.Sets.{member}
 use Rattle.format.specs.Syntax.{Objective}
 use Rattle.format.specs.Format.{got, theory}
 use Rattle.reader.proofs.TestLaws.{Tried, tried-first, tried-outside, tried-found, tried-stuck, tried-all, none-more}

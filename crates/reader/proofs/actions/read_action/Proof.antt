@@ -4,7 +4,7 @@ use denote.Ref.{now}
 use Rattle.format.specs.Syntax.{change, probe}
 use Rattle.format.specs.Format.{mapped, theory, replies}
 use Rattle.format.proofs.ReaderLaws.{also-refused, action-refused, action-change, action-probe}
-use Rattle.reader.specs.Answers.{numberOf, kindRead, setRead, inTheory}
+use Rattle.reader.specs.Answers.{kindRead, setRead, inTheory}
 use Rattle.reader.specs.Method.{endRead, ending, someHolds}
 use Rattle.reader.proofs.EndLaws.{also-ends, ends-mapped}
 use borrow.Author.Needs.{needs}

@@ -2,7 +2,7 @@
 use mathlib.Core.Path.{sym, ap, _∙_}
 use denote.Ref.{now}
 use Rattle.states.specs.Sets.{members}
-use Rattle.reader.specs.Answers.{numberOf, kindRead}
+use Rattle.reader.specs.Answers.{kindRead}
 use Rattle.reader.specs.Method.{passedTo}
 use Rattle.reader.proofs.TestLaws.{kind-tested, change-tested, probe-tested}
 use borrow.Author.Needs.{needs}

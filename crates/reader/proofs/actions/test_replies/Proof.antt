@@ -1,7 +1,7 @@
 -- `reader::actions::test_replies` meets its contract: the test behind 15, and where the replies end. Assumes nothing.
-use mathlib.Core.Path.{_≡_, sym, ap, _∙_}
+use mathlib.Core.Path.{sym, ap, _∙_}
 use Prim.Native.Nat.{ℕ}
-use Rattle.format.specs.Format.{Answer, accepted}
+use Rattle.format.specs.Format.{accepted}
 use Rattle.format.proofs.ReaderLaws.{made-value, never-refused}
 use Rattle.reader.specs.Answers.{numberOf, setRead}
 use Rattle.reader.specs.Method.{passedTo, someHolds}

@@ -1,10 +1,10 @@
 -- `reader::nodes::header` meets its contract: each return by the law of its case (FieldLaws of `format`). Assumes nothing.
-use mathlib.Core.Path.{_≡_, sym, ap, _∙_}
+use mathlib.Core.Path.{sym, ap, _∙_}
 use native.Mathlib.Omega.{arith}
 use borrow.Author.Tests.{eq-eqb, ne-eqb}
 use Rattle.states.specs.declared.States.{States}
 use Rattle.format.specs.Truth.{inSpace}
-use Rattle.format.specs.Format.{got, mapped, isEdition, header}
+use Rattle.format.specs.Format.{mapped, isEdition, header}
 use Rattle.format.proofs.FieldLaws.{one-to-eight, below-one, above-eight, edition-cut, edition-out, facts-cut, facts-out, actions-cut, header-got}
 use Rattle.format.proofs.ReaderLaws.{sheet-short, sheet-long}
 use Rattle.reader.proofs.BodyLaws.{header-spaced}

@@ -1,5 +1,5 @@
 -- `reader::nodes::program_at` meets its contract: each return by the law of its case (FieldLaws of `format`). Assumes nothing.
-use mathlib.Core.Path.{_≡_, sym, ap, _∙_}
+use mathlib.Core.Path.{sym, ap, _∙_}
 use borrow.Author.Tests.{eq-eqb, ne-eqb}
 use Rattle.format.proofs.FieldLaws.{program-cut, end-first, act-many, number-cut, act-first, branch-many, branch-first, loop-first}
 use Rattle.reader.specs.Answers.{numberOf, programNodeRead}

@@ -1,6 +1,6 @@
 -- `reader::program::read_program` meets its contract, by recursion on the levels left. Assumes nothing.
 use borrow.Author.Needs.{needs}
-use mathlib.Core.Path.{_≡_, sym, ap, _∙_}
+use mathlib.Core.Path.{sym, ap, _∙_}
 use native.Mathlib.Omega.{arith}
 use Prim.Native.Nat.{ℕ, _-_, _<_}
 use Rattle.format.specs.Format.{mapped, programWithin}

@@ -1,5 +1,5 @@
 -- `reader::sheet::read` meets its contract: the header, the fields behind it and the tests behind these, as `reading` has them. Assumes nothing.
-use mathlib.Core.Path.{_≡_, sym, ap, _∙_}
+use mathlib.Core.Path.{sym, ap, _∙_}
 use Rattle.reader.proofs.BodyLaws.{read-short, read-limits, read-space, no-header, no-body, read-tested}
 use Rattle.reader.specs.Answers.{answerOf, setRead, headerOf, headerRead}
 use borrow.Author.Needs.{needs}
