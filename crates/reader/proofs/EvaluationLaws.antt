@@ -13,10 +13,10 @@ use Rattle.states.specs.Sets.{member, setOf}
 use Rattle.states.proofs.SetLaws.{member-setOf, set-cong}
 use Rattle.reader.specs.declared.formula.View.{View}
 use Rattle.format.specs.Syntax.{Objective, fact, new-fact, negation, conjunction, disjunction, equivalence}
-use Rattle.format.specs.Truth.{factIn, truth}
+use Rattle.format.specs.Truth.{truth}
 use Rattle.format.specs.Format.{Read, got, fault, Reader, _>>=_, mapped, give, refuse, check, mostBytes, deepest, factNumber, objectiveBehind, objective, ofSheet}
 use Rattle.reader.specs.Answers.{inTheory, statesIn}
-use Rattle.reader.specs.Method.{fromOf, toOf, joined}
+use Rattle.reader.specs.Method.{factOf, joined}
 use Rattle.format.proofs.FormatLaws.{behind-got, behind-fault}
 use Rattle.format.specs.Standing.{ObjectiveAt}
 use Rattle.format.proofs.ReaderLaws.{mapped-got, mapped-fault, mapped-same, mapped-give, sheet-short}
@@ -53,13 +53,13 @@ module _ (from to : ℕ → ℕ) where
     set-constant (suc (suc tag)) h = absurd (omega arith)
 
     -- A fact.
-    pub set-fact : (tag : ℕ) → tag ≡ 2 → behind tag ≡ mapped (λ i. setOf (λ t. factIn (from t) i)) (factNumber n bytes q)
-    unfolding objectiveBehind truth
+    pub set-fact : (tag : ℕ) → tag ≡ 2 → behind tag ≡ mapped (λ i. trueAt (factOf false i)) (factNumber n bytes q)
+    unfolding objectiveBehind factOf
     set-fact tag e = rw e (mapped-give trueAt (factNumber n) fact bytes q)
 
     -- A new fact, in a theory.
-    pub set-new : (tag : ℕ) → tag ≡ 3 → theory ≡ true → behind tag ≡ mapped (λ i. setOf (λ t. factIn (to t) i)) (factNumber n bytes q)
-    unfolding objectiveBehind check truth
+    pub set-new : (tag : ℕ) → tag ≡ 3 → theory ≡ true → behind tag ≡ mapped (λ i. trueAt (factOf true i)) (factNumber n bytes q)
+    unfolding objectiveBehind check factOf
     set-new tag e h = rw (e, h) (mapped-give trueAt (factNumber n) new-fact bytes q)
 
     -- A new fact outside a theory is refused.
@@ -149,6 +149,15 @@ module _ (from to : ℕ → ℕ) where
         go false true = two-none disjunction
         go false false = two-none equivalence
 
+-- The state and the next state at which a view has a formula evaluated for its state t.
+unfoldable pub fromOf : View → ℕ → ℕ
+fromOf View.States t = t
+fromOf (View.Next s) t = s
+
+unfoldable pub toOf : View → ℕ → ℕ
+toOf View.States t = t
+toOf (View.Next s) t = t
+
 -- The set of a formula in a view is the set of the states at which it is true there.
 pub states-true : (view : View) (f : Objective) → statesIn view f ≡ trueAt (fromOf view) (toOf view) f
 unfolding statesIn fromOf toOf
@@ -158,6 +167,9 @@ states-true (View.Next s) f = refl
 -- So are the sets that are read.
 pub read-true : (view : View) (x : Read Objective) → mapped (statesIn view) x ≡ mapped (trueAt (fromOf view) (toOf view)) x
 read-true view x = mapped-same (statesIn view) (trueAt (fromOf view) (toOf view)) (states-true view) x
+
+pub facts-true : (view : View) (fresh : Bool) (x : Read ℕ) → mapped (λ i. statesIn view (factOf fresh i)) x ≡ mapped (λ i. trueAt (fromOf view) (toOf view) (factOf fresh i)) x
+facts-true view fresh x = mapped-same (λ i. statesIn view (factOf fresh i)) (λ i. trueAt (fromOf view) (toOf view) (factOf fresh i)) (λ i. states-true view (factOf fresh i)) x
 
 -- What `objective_states` promises of a formula that stands: its set in the view, and where it ends.
 pub standing-evaluated : (bytes : List ℕ) (n : ℕ) (view : View) (f : Objective) (p q : ℕ) → length bytes ≤ mostBytes → ObjectiveAt bytes n (inTheory view) f p q

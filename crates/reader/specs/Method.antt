@@ -1,13 +1,13 @@
 -- The method of the reader's inner functions, for their contracts: positions instead of values, sets of states instead of lists. An auditor of the promises needs none of it.
 use Prim.Native.Nat.{ℕ}
 use mathlib.Core.List.{List}
-use mathlib.Core.Bool.{Bool, _&&_, _||_, Bool·beq}
+use mathlib.Core.Bool.{Bool, true, false, _&&_, _||_, Bool·beq}
 use lib.Dec.{eqb}
 use Rattle.lists.specs.Lists.{if_then_else_, exists}
 use Rattle.states.specs.declared.States.{States}
 use Rattle.states.specs.Sets.{setOf}
-use Rattle.format.specs.Syntax.{Objective, Sheet}
-use Rattle.format.specs.Truth.{factIn, holds}
+use Rattle.format.specs.Syntax.{Objective, fact, new-fact, Sheet}
+use Rattle.format.specs.Truth.{holds}
 use Rattle.format.specs.Format.{Answer, accepted, refused, Read, got, fault, ProgramRead}
 use Rattle.reader.specs.Answers.{numberOf, statesIn}
 use Rattle.reader.specs.declared.bits.Field.{Field}
@@ -50,19 +50,10 @@ startSet sheet = statesIn View.States (sheet .start)
 unfoldable pub someHolds : List Objective → States
 someHolds fs = setOf (λ s. exists (λ f. holds f s) fs)
 
--- The state and the next state at which a view has a formula evaluated for its state t.
-unfoldable pub fromOf : View → ℕ → ℕ
-fromOf View.States t = t
-fromOf (View.Next s) t = s
-
-unfoldable pub toOf : View → ℕ → ℕ
-toOf View.States t = t
-toOf (View.Next s) t = t
-
--- The states of a view in which fact i is true; as a new fact, it is one of the next state.
-unfoldable pub factStates : (fresh : Bool) → View → (i : ℕ) → States
-unfolding setOf factIn fromOf toOf if_then_else_
-factStates fresh view i = setOf (λ t. factIn (if fresh then toOf view t else fromOf view t) i)
+-- A fact or, where it is fresh, a new fact.
+unfoldable pub factOf : (fresh : Bool) (i : ℕ) → Objective
+factOf true i = new-fact i
+factOf false i = fact i
 
 -- The truth of a formula of two parts, by its tag: 5 and; 6 or; 7 equivalence.
 unfoldable pub joined : (tag : ℕ) (x y : Bool) → Bool

@@ -16,7 +16,7 @@ ghost use Rattle.states.specs.Sets.{member, setOf};
 ghost use Rattle.format.specs.Truth.{factIn};
 ghost use Rattle.format.specs.Format.{mapped, mostBytes, mostFacts, deepest, factNumber, objective, epistemic, ofSheet};
 ghost use Rattle.reader.specs.Answers.{setRead, inTheory, statesIn};
-ghost use Rattle.reader.specs.Method.{endRead, ending, factStates, joined};
+ghost use Rattle.reader.specs.Method.{endRead, ending, factOf, joined};
 
 // A set of states and the position after what was read, or why it was refused.
 pub enum Evaluated {
@@ -80,7 +80,7 @@ fn repeated(w: u64) -> States
 // The states of a view in which fact i is true, as a fact or, where `fresh`, as a new fact.
 fn seen(i: usize, fresh: bool, view: View) -> States
     requires { ⌜ i < mostFacts ⌝ }
-    ensures { λ r. ⌜ r ≡ factStates fresh view i ⌝ }
+    ensures { λ r. ⌜ r ≡ statesIn view (factOf fresh i) ⌝ }
 {
     match view {
         View::States => holding_fact(i),
@@ -96,7 +96,7 @@ fn seen(i: usize, fresh: bool, view: View) -> States
 // A fact number below n, and the states of a view in which the fact is true.
 fn evaluate_fact(bytes: &[u8], at: usize, n: usize, fresh: bool, view: View) -> Evaluated
     requires { ⌜ length (now bytes) ≤ mostBytes ⌝ }
-    ensures { λ r. ⌜ setRead r ≡ mapped (factStates fresh view) (factNumber n (now (bytes .entry)) at) ⌝ }
+    ensures { λ r. ⌜ setRead r ≡ mapped (λ i. statesIn view (factOf fresh i)) (factNumber n (now (bytes .entry)) at) ⌝ }
 {
     match field_at(bytes, at, 3) {
         Field::Cut => Evaluated::Refused(Refusal::Cut),

@@ -1,19 +1,19 @@
 -- `reader::evaluate` meets its contract: each return by the law of the tag that led there. The measure is the levels left. Assumes nothing.
+use mathlib.Core.Bool.{true, false}
 use borrow.Author.Needs.{needs}
 use native.Mathlib.Omega.{arith}
 use mathlib.Core.Path.{_≡_, sym, ap, _∙_}
 use Prim.Native.Nat.{ℕ, _-_, _<_}
 use denote.Ref.{now}
 use mathlib.Core.List.{List}
-use Rattle.lists.specs.Lists.{if_then_else_}
 use Rattle.states.specs.declared.States.{States}
 use Rattle.reader.specs.declared.formula.View.{View}
 use Rattle.format.specs.Syntax.{Objective}
 use Rattle.format.specs.Format.{Read, Reader, got, mapped, field, objective, objectiveBehind}
 use Rattle.format.proofs.ReaderLaws.{objective-none, objective-cut, objective-tag}
-use Rattle.reader.proofs.EvaluationLaws.{trueAt, set-constant, set-fact, set-new, set-outside, set-not, set-two, first-refused, second-refused, read-true}
+use Rattle.reader.proofs.EvaluationLaws.{trueAt, set-constant, set-fact, set-new, set-outside, set-not, set-two, first-refused, second-refused, fromOf, toOf, read-true, facts-true}
 use Rattle.reader.specs.Answers.{numberOf, setRead, inTheory, statesIn}
-use Rattle.reader.specs.Method.{fieldRead, fromOf, toOf, factStates}
+use Rattle.reader.specs.Method.{fieldRead}
 use borrow.Fn.Kinds.{In}
 use borrow.Fn.PlainCycle.{Measures, is, falls, and}
 use Rattle.reader.proofs.formula.evaluate.Reads as self
@@ -120,10 +120,10 @@ module _ (t : ℕ) where
   evaluate-fact-requires c κs = search needs
 
   returns-3 : lts.Need-returns-3 (calls t) (given t) self.Post
-  unfolding setRead numberOf mapped factStates if_then_else_
+  unfolding setRead numberOf
   returns-3 c =
       let d = c .before .before .before in
-      c .evaluate-fact .ensures ∙ sym (whole d ∙ set-fact (fromOf (view d)) (toOf (view d)) (start d .args .n) (inTheory (view d)) (part d) (bytes d) (next d) (tag d) (c .before .if3 .taken))
+      c .evaluate-fact .ensures ∙ facts-true (view d) false _ ∙ sym (whole d ∙ set-fact (fromOf (view d)) (toOf (view d)) (start d .args .n) (inTheory (view d)) (part d) (bytes d) (next d) (tag d) (c .before .if3 .taken))
 
   is-theory-requires : lts.Need-is-theory-requires (calls t) (given t) self.Post
   is-theory-requires c κs = search needs
@@ -132,10 +132,10 @@ module _ (t : ℕ) where
   evaluate-fact-requires-2 c κs = search needs
 
   returns-4 : lts.Need-returns-4 (calls t) (given t) self.Post
-  unfolding setRead numberOf mapped factStates if_then_else_
+  unfolding setRead numberOf
   returns-4 c =
       let d = c .before .before .before .before .before .before in
-      c .evaluate-fact2 .ensures ∙ sym (whole d ∙ set-new (fromOf (view d)) (toOf (view d)) (start d .args .n) (inTheory (view d)) (part d) (bytes d) (next d) (tag d) (c .before .before .before .if4 .taken) (sym (c .before .before .is-theory .ensures) ∙ c .before .if5 .taken))
+      c .evaluate-fact2 .ensures ∙ facts-true (view d) true _ ∙ sym (whole d ∙ set-new (fromOf (view d)) (toOf (view d)) (start d .args .n) (inTheory (view d)) (part d) (bytes d) (next d) (tag d) (c .before .before .before .if4 .taken) (sym (c .before .before .is-theory .ensures) ∙ c .before .if5 .taken))
 
   returns-5 : lts.Need-returns-5 (calls t) (given t) self.Post
   unfolding setRead numberOf mapped

@@ -2,8 +2,8 @@
 use mathlib.Core.Path.{sym, ap, _∙_}
 use Rattle.format.specs.Format.{mapped}
 use Rattle.format.proofs.ReaderLaws.{fact-cut, fact-in, fact-out}
-use Rattle.reader.specs.Answers.{setRead, numberOf}
-use Rattle.reader.specs.Method.{fieldRead, factStates}
+use Rattle.reader.specs.Answers.{setRead, numberOf, statesIn}
+use Rattle.reader.specs.Method.{fieldRead, factOf}
 use Rattle.format.proofs.FormatLaws.{field-below}
 use borrow.Author.Needs.{needs}
 use Rattle.reader.proofs.formula.evaluate_fact.Statement.{statement}
@@ -23,7 +23,7 @@ unfolding fieldRead setRead numberOf mapped
 returns c =
     let a = c .before .before .before .before .before .before .args in
     let f = sym (c .before .before .before .before .field-at .ensures) ∙ ap fieldRead (c .before .before .i .given .1) in
-    sym (ap (mapped (factStates (a .fresh) (a .view))) (fact-out (a .n) (a .bytes .now) (a .at) f (search needs)))
+    sym (ap (mapped (λ i. statesIn (a .view) (factOf (a .fresh) i))) (fact-out (a .n) (a .bytes .now) (a .at) f (search needs)))
 
 seen-requires : tie.Need-seen-requires
 unfolding fieldRead
@@ -36,14 +36,14 @@ unfolding fieldRead setRead numberOf mapped
 returns-2 c =
     let a = c .before .before .before .before .args in
     let f = sym (c .before .before .field-at .ensures) ∙ ap fieldRead (c .enum-told .given .1) in
-    sym (ap (mapped (factStates (a .fresh) (a .view))) (fact-cut (a .n) (a .bytes .now) (a .at) f))
+    sym (ap (mapped (λ i. statesIn (a .view) (factOf (a .fresh) i))) (fact-cut (a .n) (a .bytes .now) (a .at) f))
 
 returns-3 : tie.Need-returns-3
 unfolding fieldRead setRead numberOf mapped
 returns-3 c =
     let a = c .before .before .before .before .before .before .before .args in
     let f = sym (c .before .before .before .before .before .field-at .ensures) ∙ ap fieldRead (c .before .before .before .i .given .1) in
-    rw (c .seen .ensures) (sym (ap (mapped (factStates (a .fresh) (a .view))) (fact-in (a .n) (a .bytes .now) (a .at) f (search needs))))
+    rw (c .seen .ensures) (sym (ap (mapped (λ i. statesIn (a .view) (factOf (a .fresh) i))) (fact-in (a .n) (a .bytes .now) (a .at) f (search needs))))
 
 pub evaluate-fact-spec : {M : Type 1} → statement M
 evaluate-fact-spec =

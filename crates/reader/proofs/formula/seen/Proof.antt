@@ -2,18 +2,18 @@
 use mathlib.Core.Path.{_≡_, refl, sym, _∙_}
 use mathlib.Core.Bool.{Bool, true, false}
 use Prim.Native.Nat.{ℕ}
-use Rattle.lists.specs.Lists.{if_then_else_}
 use Rattle.states.specs.Sets.{setOf}
 use Rattle.reader.specs.declared.formula.View.{View}
-use Rattle.format.specs.Truth.{factIn}
-use Rattle.reader.specs.Method.{fromOf, toOf, factStates}
+use Rattle.format.specs.Truth.{factIn, truth}
+use Rattle.reader.specs.Answers.{statesIn}
+use Rattle.reader.specs.Method.{factOf}
 use borrow.Author.Needs.{needs}
 use Rattle.reader.proofs.formula.seen.Statement.{statement}
 use Rattle.reader.proofs.formula.seen.Tie as tie
 
 -- Outside a theory a fact is the same as a new one.
-either-way : (fresh : Bool) (i : ℕ) → factStates fresh View.States i ≡ setOf (λ t. factIn t i)
-unfolding factStates fromOf toOf if_then_else_
+either-way : (fresh : Bool) (i : ℕ) → statesIn View.States (factOf fresh i) ≡ setOf (λ t. factIn t i)
+unfolding statesIn factOf truth
 either-way true i = refl
 either-way false i = refl
 
@@ -30,7 +30,7 @@ holding-fact-requires-2 : tie.Need-holding-fact-requires-2
 holding-fact-requires-2 c κs = search needs
 
 returns : tie.Need-returns
-unfolding factStates fromOf toOf factIn if_then_else_
+unfolding statesIn factOf truth factIn
 returns c = c .holding-fact2 .ensures ∙ sym (rw (c .before .before .before .view .given .1, c .before .if1 .taken))
 
 wide-requires : tie.Need-wide-requires
@@ -43,11 +43,11 @@ uniform-requires : tie.Need-uniform-requires
 uniform-requires c κs = search needs
 
 returns-2 : tie.Need-returns-2
-unfolding factStates fromOf toOf factIn if_then_else_
+unfolding statesIn factOf truth factIn
 returns-2 c = c .holding-fact .ensures ∙ sym (rw (c .before .enum-told .given .1) (either-way (c .before .before .before .args .fresh) (c .before .before .before .args .i)))
 
 returns-3 : tie.Need-returns-3
-unfolding factStates fromOf toOf factIn if_then_else_
+unfolding statesIn factOf truth factIn
 returns-3 c = c .uniform .ensures ∙ rw (c .before .wide .ensures) (sym (rw (c .before .before .before .before .view .given .1, c .before .before .if1 .left)))
 
 pub seen-spec : {M : Type 1} → statement M
