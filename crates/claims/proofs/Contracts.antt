@@ -5,7 +5,7 @@ use mathlib.Core.List.{List}
 use mathlib.Core.Bool.{Bool}
 use Rattle.states.specs.declared.States.{States}
 use Rattle.format.specs.Format.{reading}
-use Rattle.reader.specs.declared.sheet.Answer.{Answer as Said}
+use Rattle.reader.specs.declared.sheet.Acceptance.{Acceptance}
 use Rattle.reader.specs.Answers.{answerOf as readOf, withoutValue}
 use Rattle.semantics.specs.Verdict.{verified}
 use Rattle.semantics.specs.Checker.{checked}
@@ -21,7 +21,7 @@ use Rattle.runner.proofs.ListLaws.{RunnerContracts}
 use Rattle.claims.specs.Demands.{Library}
 
 pub record Contracts {ℓ} (library : Library {ℓ}) : Type ℓ where
-  pub read-contract : (bytes : List ℕ) (a : Said) → library .reads bytes a → readOf a ≡ withoutValue (reading bytes)
+  pub read-contract : (bytes : List ℕ) (a : Acceptance) → library .reads bytes a → readOf a ≡ withoutValue (reading bytes)
   pub prepare-contract : (bytes heads nodes sets : List ℕ) (p : Prepared) (heads′ nodes′ sets′ : List ℕ) → library .prepares bytes heads nodes sets p heads′ nodes′ sets′
       → (preparedOf p ≡ startOf (reading bytes)) × (heads′ ≡ prepared sheetHeads (reading bytes) heads) × (nodes′ ≡ prepared nodeCells (reading bytes) nodes)
       × (sets′ ≡ prepared setWords (reading bytes) sets)

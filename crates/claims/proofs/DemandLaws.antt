@@ -15,7 +15,7 @@ use Rattle.states.proofs.SetLaws.{members-mem, mem-members}
 use Rattle.format.specs.Syntax.{Objective, Epistemic, known, not-known, all-of, any-of, Program, end, act, branch, Sheet}
 use Rattle.format.specs.Truth.{holds}
 use Rattle.format.specs.Format.{Answer, accepted, refused, reading}
-use Rattle.reader.specs.declared.sheet.Answer.{Answer as Said}
+use Rattle.reader.specs.declared.sheet.Acceptance.{Acceptance}
 use Rattle.reader.specs.Answers.{numberOf, answerOf as readOf, withoutValue}
 use Rattle.reader.proofs.AnswerLaws.{same-answer, was-accepted, was-refused}
 use Rattle.format.proofs.FaultLaws.{refused-number}
@@ -133,7 +133,7 @@ module _ {ℓ} (library : Library {ℓ}) (contracts : Contracts library) where
           k .3,
           shown .2,
           verdict-one r (Verdict.Invalid (historyCount (k .0)) (length (shown .0))) (v .0 ∙ k .4 ∙ ap (λ (l : ℕ). accepted (invalid (historyCount (k .0)) l)) (sym (shown .3))),
-          v .1 ∙ k .6 ∙ ap (λ (s : List ℕ). s ++ drop (length s) old) (shown .4),
+          v .1 ∙ k .6 ∙ ap (λ (bytes : List ℕ). bytes ++ drop (length bytes) old) (shown .4),
           ap length (v .1) ∙ k .8,
         ))
         (memory-kept bytes budget old);
@@ -301,13 +301,13 @@ module _ {ℓ} (library : Library {ℓ}) (contracts : Contracts library) where
   demand2 = record {
     read-accepts = λ bytes a call.
         let e = contracts .read-contract bytes a call in
-        (λ k. was-accepted (reading bytes) (sym (ap readOf k) ∙ e), λ q. same-answer a Said.Accepted (e ∙ ap withoutValue (q .1)));
+        (λ k. was-accepted (reading bytes) (sym (ap readOf k) ∙ e), λ q. same-answer a Acceptance.Accepted (e ∙ ap withoutValue (q .1)));
     read-refuses = λ bytes a call r.
         let e = contracts .read-contract bytes a call in
-        (λ k. was-refused (reading bytes) (numberOf r) (sym (ap readOf k) ∙ e), λ q. same-answer a (Said.Refused r) (e ∙ ap withoutValue q));
+        (λ k. was-refused (reading bytes) (numberOf r) (sym (ap readOf k) ∙ e), λ q. same-answer a (Acceptance.Refused r) (e ∙ ap withoutValue q));
     load-refuses = λ bytes l call r.
         let e = contracts .runner-contracts .load-contract bytes l call .0 in
-        (λ k. was-refused (reading bytes) (numberOf r) (sym (ap readOf k) ∙ e), λ q. same-answer (l .answer) (Said.Refused r) (e ∙ ap withoutValue q));
+        (λ k. was-refused (reading bytes) (numberOf r) (sym (ap readOf k) ∙ e), λ q. same-answer (l .answer) (Acceptance.Refused r) (e ∙ ap withoutValue q));
     verify-refuses = λ bytes budget old a memory call enough r.
         let e = contracts .verify-contract bytes budget old a memory call .0 in (
           λ k. verified-number bytes budget old enough (numberOf r) (sym (ap verifiedOf k) ∙ e),

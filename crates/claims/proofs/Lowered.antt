@@ -14,7 +14,7 @@ use denote.Builtin.{bool}
 use denote.Plain.{bool-fixes}
 use Rattle.states.specs.declared.States.{States}
 use Rattle.reader.specs.declared.refusal.Refusal.{Refusal}
-use Rattle.reader.specs.declared.sheet.Answer.{Answer as Said}
+use Rattle.reader.specs.declared.sheet.Acceptance.{Acceptance}
 use Rattle.reader.specs.Answers.{numberOf}
 use Rattle.reader.proofs.AnswerLaws.{same-number}
 use Rattle.routine.specs.declared.sheet.Prepared.{Prepared}
@@ -24,8 +24,8 @@ use Rattle.checker.specs.declared.Checked.{Checked}
 use Rattle.states.proofs.States as states-type
 use Rattle.states.proofs.States.Laws as states-laws
 use Rattle.reader.proofs.refusal.Refusal.Laws as refusal-laws
-use Rattle.reader.proofs.sheet.Answer as said-type
-use Rattle.reader.proofs.sheet.Answer.Laws as said-laws
+use Rattle.reader.proofs.sheet.Acceptance as said-type
+use Rattle.reader.proofs.sheet.Acceptance.Laws as said-laws
 use Rattle.routine.proofs.sheet.Prepared as prepared-type
 use Rattle.routine.proofs.sheet.Prepared.Laws as prepared-laws
 use Rattle.progression.proofs.place.Place as place-type
@@ -97,11 +97,11 @@ states-apart a b e =
     let d3 : a .w3 ≡ b .w3 = cc in
     λ i. record { w0 = d0 i; w1 = d1 i; w2 = d2 i; w3 = d3 i }
 
-said-apart : (a b : Said) → said-laws.lowered a ≡ said-laws.lowered b → a ≡ b
-said-apart Said.Accepted Said.Accepted e = refl
-said-apart Said.Accepted (Said.Refused y) e = unlike cc
-said-apart (Said.Refused x) Said.Accepted e = unlike cc
-said-apart (Said.Refused x) (Said.Refused y) e = let d : refusal-laws.lowered x ≡ refusal-laws.lowered y = cc in ap Said.Refused (refusal-apart x y d)
+said-apart : (a b : Acceptance) → said-laws.lowered a ≡ said-laws.lowered b → a ≡ b
+said-apart Acceptance.Accepted Acceptance.Accepted e = refl
+said-apart Acceptance.Accepted (Acceptance.Refused y) e = unlike cc
+said-apart (Acceptance.Refused x) Acceptance.Accepted e = unlike cc
+said-apart (Acceptance.Refused x) (Acceptance.Refused y) e = let d : refusal-laws.lowered x ≡ refusal-laws.lowered y = cc in ap Acceptance.Refused (refusal-apart x y d)
 
 prepared-apart : (a b : Prepared) → prepared-laws.lowered a ≡ prepared-laws.lowered b → a ≡ b
 prepared-apart (Prepared.Ready x) (Prepared.Ready y) e = let d : states-laws.lowered x ≡ states-laws.lowered y = cc in ap Prepared.Ready (states-apart x y d)
@@ -226,7 +226,7 @@ after-report-apart a b e =
     λ i. record { answer = reported-apart (a .answer) (b .answer) d0 i; kept = record-apart (a .kept) (b .kept) d1 i }
 
 -- The result types of the functions that the demands speak of.
-pub machine-said-one : Fixes said-type.the-row (Is said-type.the-row) (λ (a : Said). a)
+pub machine-said-one : Fixes said-type.the-row (Is said-type.the-row) (λ (a : Acceptance). a)
 machine-said-one = one-of said-type.the-row said-laws.lowers said-apart
 
 pub machine-prepared-one : Fixes prepared-type.the-row (Is prepared-type.the-row) (λ (a : Prepared). a)

@@ -11,7 +11,7 @@ use denote.Triple.Clauses.{Lasts, atExit}
 use Rattle.states.specs.declared.States.{States}
 use Rattle.format.specs.Format.{reading}
 use Rattle.reader.specs.Answers.{withoutValue}
-use Rattle.reader.specs.declared.sheet.Answer.{Answer as Said}
+use Rattle.reader.specs.declared.sheet.Acceptance.{Acceptance}
 use Rattle.semantics.specs.Verdict.{Verified, verified}
 use Rattle.semantics.specs.Checker.{checked}
 use Rattle.routine.specs.declared.sheet.Prepared.{Prepared}
@@ -40,7 +40,7 @@ use Rattle.claims.proofs.Contracts.{Contracts}
 use Rattle.claims.proofs.DemandLaws.{demand1, demand2, demand3}
 
 -- `reader::read` of a lent sheet.
-abbrev ReadMay : (bytes : List ℕ) → Said → Type 0
+abbrev ReadMay : (bytes : List ℕ) → Acceptance → Type 0
 ReadMay bytes r = (κs : Lfts 1) × (a : Args read.signature κs) × (ws : Lasts read.ended κs a) × (now (a .0) ≡ bytes) × read-reads.Learnt κs a r (atExit read.ended κs a ws)
 
 -- `routine::prepare` of a lent sheet in lent memory.

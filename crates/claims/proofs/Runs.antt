@@ -20,7 +20,7 @@ use denote.Triple.Spec.{Spec}
 use Rattle.states.specs.declared.States.{States}
 use Rattle.format.specs.Format.{reading}
 use Rattle.reader.specs.Answers.{answerOf as readOf, withoutValue}
-use Rattle.reader.specs.declared.sheet.Answer.{Answer as Said}
+use Rattle.reader.specs.declared.sheet.Acceptance.{Acceptance}
 use Rattle.semantics.specs.Checker.{checked}
 use Rattle.routine.specs.declared.sheet.Prepared.{Prepared}
 use Rattle.routine.specs.Tables.{preparedOf, startOf, prepared, sheetHeads, nodeCells, setWords}
@@ -70,12 +70,12 @@ module _ {M : Type 1} (𝓤 : URA M) (H : Heap 𝓤) (𝓜 : Model 𝓤 H) (𝓖
       (x : Bound 𝓤 H (𝓖 .A) read.signature) × (now (x .3 .0) ≡ bytes)
       × MayCall 𝓤 H 𝓜 𝓖 read.signature read-spec x tt
 
-  abbrev pub ReadRan : (bytes : List ℕ) → Said → Type 1
+  abbrev pub ReadRan : (bytes : List ℕ) → Acceptance → Type 1
   ReadRan bytes r =
       (x : Bound 𝓤 H (𝓖 .A) read.signature) × (now (x .3 .0) ≡ bytes)
       × Ran 𝓤 H 𝓜 𝓖 read.signature read-symbol.routine read-spec x tt r
 
-  abbrev read-told : Bound 𝓤 H (𝓖 .A) read.signature → Said → Type 0
+  abbrev read-told : Bound 𝓤 H (𝓖 .A) read.signature → Acceptance → Type 0
   read-told x r = (ws : Lasts read.ended (x .0) (x .3)) × read-reads.Learnt (x .0) (x .3) r (atExit read.ended (x .0) (x .3) ws)
 
   read-does : (x : Bound 𝓤 H (𝓖 .A) read.signature) → Does 𝓤 H 𝓜 𝓖 read.signature read-symbol.routine read-spec x tt (read-told x)
@@ -83,12 +83,12 @@ module _ {M : Type 1} (𝓤 : URA M) (H : Heap 𝓤) (𝓜 : Model 𝓤 H) (𝓖
       does 𝓤 H 𝓜 𝓖 read.signature read-symbol.routine read-spec (read-met.met 𝓤 H 𝓜 𝓖 𝓡) x tt (read.ended .kept) (λ r e. read-reads.Learnt (x .0) (x .3) r e)
       (λ r. id⊢ 𝓤 _) machine-said-one
 
-  pub read-ran : (bytes : List ℕ) (r : Said) → ReadRan bytes r
+  pub read-ran : (bytes : List ℕ) (r : Acceptance) → ReadRan bytes r
       → readOf r ≡ withoutValue (reading bytes)
   read-ran bytes r c =
       ∥∥₁-elim (read-does (c .0) .1 r (c .2)) (unit-answer-set _ _) (λ t. contracts .read-contract bytes r (c .0 .0, c .0 .3, t .0, c .1, t .1))
 
-  pub read-ends : (bytes : List ℕ) → CanRead bytes → ∥ ((r : Said) × ReadRan bytes r) ∥₁
+  pub read-ends : (bytes : List ℕ) → CanRead bytes → ∥ ((r : Acceptance) × ReadRan bytes r) ∥₁
   read-ends bytes c =
       ∥∥₁-map (read-does (c .0) .0 (c .2)) (λ t. (t .0, (c .0, c .1, t .1)))
 

@@ -11,7 +11,7 @@ use Rattle.format.specs.Syntax.{Objective, Epistemic, known, not-known, all-of,
 use Rattle.format.specs.Truth.{holds}
 use Rattle.format.specs.Format.{accepted, refused, mostBytes, mostActs, reading}
 use Rattle.reader.specs.declared.refusal.Refusal.{Refusal}
-use Rattle.reader.specs.declared.sheet.Answer.{Answer as Said}
+use Rattle.reader.specs.declared.sheet.Acceptance.{Acceptance}
 use Rattle.reader.specs.Answers.{numberOf, answerOf as readOf, withoutValue}
 use Rattle.semantics.specs.Runs.{Entry, History, extended, IsRun, lastState, Holds}
 use Rattle.semantics.specs.Routine.{routine, Follows, isFull, Failing}
@@ -54,7 +54,7 @@ Tested f sheet = Atom f (sheet .goal) ⊎ ((e : Epistemic) × Condition e (sheet
 
 -- What a call of each function may give back: by the values of its arguments, its result and, where memory is lent to be written, what that holds before and after.
 pub record Library {ℓ} : Type (ℓ + 1) where
-  pub reads : (bytes : List ℕ) → Said → Type ℓ
+  pub reads : (bytes : List ℕ) → Acceptance → Type ℓ
   pub prepares : (bytes heads nodes sets : List ℕ) → Prepared → (heads′ nodes′ sets′ : List ℕ) → Type ℓ
   pub settles : (nodes sets : List ℕ) → States → (at : ℕ) → Place → Type ℓ
   pub steps : (heads sets : List ℕ) → States → (action reply : ℕ) → States → Type ℓ
@@ -129,7 +129,7 @@ module _ {ℓ} (library : Library {ℓ}) where
 
   -- Demand 1: "every call ends".
   pub record Ending (callable : Callable {ℓ}) : Type ℓ where
-    pub read-ends : (bytes : List ℕ) → callable .can-read bytes → ∥ ((a : Said) × library .reads bytes a) ∥₁
+    pub read-ends : (bytes : List ℕ) → callable .can-read bytes → ∥ ((a : Acceptance) × library .reads bytes a) ∥₁
     pub prepare-ends : (bytes heads nodes sets : List ℕ) → callable .can-prepare bytes heads nodes sets
         → ∥ ((p : Prepared) × (heads′ : List ℕ) × (nodes′ : List ℕ) × (sets′ : List ℕ) × library .prepares bytes heads nodes sets p heads′ nodes′ sets′) ∥₁
     pub settle-ends : (nodes sets : List ℕ) (set : States) (at : ℕ) → callable .can-settle nodes sets set at → ∥ ((p : Place) × library .settles nodes sets set at p) ∥₁
@@ -162,8 +162,8 @@ module _ {ℓ} (library : Library {ℓ}) where
 
   -- Demand 1, of what the calls give back.
   pub record Demand1 : Type ℓ where
-    -- "The lent trace memory holds, after every call on every input, either the failing trace followed by its old bytes, or only its old bytes." (The first with the
-    -- answer "invalid" alone.)
+    -- "The lent trace memory holds, after every call on every input, either the failing trace followed by its old bytes, or only its old bytes" (the first with the
+    -- answer "invalid" alone).
     pub memory-holds : (bytes : List ℕ) (budget : ℕ) (old : List ℕ) (r : Verdict) (memory : List ℕ) → library .verifies bytes budget old r memory
         → ((memory ≡ old) × ((c l : ℕ) → r ≡ Verdict.Invalid c l → ⊥))
         ⊎ ((sheet : Sheet) × (h : History) × (run : List ℕ) × (reading bytes ≡ accepted sheet) × Failing sheet h run × (r ≡ Verdict.Invalid (historyCount sheet) (length h))
@@ -172,7 +172,7 @@ module _ {ℓ} (library : Library {ℓ}) where
     pub next-keeps : (r : Record) (t : AfterNext) → library .runner .tells r t → t .kept ≡ r
     pub refused-keeps : (r : Record) (x : ℕ) (t : AfterReport) → library .runner .reports r x t → (why : Rejection) → t .answer ≡ Reported.Refused why → t .kept ≡ r
     -- "with an answer that document 01 fixes": the one that the definitions give, with document 01's numbers and values; so the same call gets the same.
-    pub read-fixed : (bytes : List ℕ) (a : Said) → library .reads bytes a → readOf a ≡ withoutValue (reading bytes)
+    pub read-fixed : (bytes : List ℕ) (a : Acceptance) → library .reads bytes a → readOf a ≡ withoutValue (reading bytes)
     pub verify-fixed : (bytes : List ℕ) (budget : ℕ) (old : List ℕ) (r : Verdict) (memory : List ℕ) → library .verifies bytes budget old r memory
         → (verifiedOf r ≡ verified bytes budget old .answer) × (memory ≡ verified bytes budget old .memory)
     pub check-fixed : (bytes shown : List ℕ) (a : Checked) → library .checks bytes shown a → checkedOf a ≡ checked bytes shown
@@ -180,7 +180,7 @@ module _ {ℓ} (library : Library {ℓ}) where
     pub next-fixed : (r : Record) (t : AfterNext) → library .runner .tells r t → toldOf (t .answer) ≡ nextOn r
     pub report-fixed : (r : Record) (x : ℕ) (t : AfterReport) → library .runner .reports r x t → (reportedOf (t .answer) ≡ withoutValue (reportOn r x)) × (t .kept ≡ recordAfter r x)
     -- What an answer means tells the answer: no two answers have the same number and values.
-    pub read-one : (a b : Said) → readOf a ≡ readOf b → a ≡ b
+    pub read-one : (a b : Acceptance) → readOf a ≡ readOf b → a ≡ b
     pub verify-one : (r q : Verdict) → verifiedOf r ≡ verifiedOf q → r ≡ q
     pub check-one : (a b : Checked) → checkedOf a ≡ checkedOf b → a ≡ b
     pub told-one : (a b : Told) → toldOf a ≡ toldOf b → a ≡ b
@@ -192,10 +192,10 @@ module _ {ℓ} (library : Library {ℓ}) where
   -- Demand 2.
   pub record Demand2 : Type ℓ where
     -- "A sheet is read", "as document 01 states": the reader accepts exactly the sheets in its form, and refuses every other with its number.
-    pub read-accepts : (bytes : List ℕ) (a : Said) → library .reads bytes a → (a ≡ Said.Accepted) ↔ ((sheet : Sheet) × (reading bytes ≡ accepted sheet))
-    pub read-refuses : (bytes : List ℕ) (a : Said) → library .reads bytes a → (r : Refusal) → (a ≡ Said.Refused r) ↔ (reading bytes ≡ refused (numberOf r))
+    pub read-accepts : (bytes : List ℕ) (a : Acceptance) → library .reads bytes a → (a ≡ Acceptance.Accepted) ↔ ((sheet : Sheet) × (reading bytes ≡ accepted sheet))
+    pub read-refuses : (bytes : List ℕ) (a : Acceptance) → library .reads bytes a → (r : Refusal) → (a ≡ Acceptance.Refused r) ↔ (reading bytes ≡ refused (numberOf r))
     -- "a sheet outside that form is refused, and no other is": so do loading, the verifier, where the memory is long enough, and the trace checker.
-    pub load-refuses : (bytes : List ℕ) (l : AfterLoad) → library .runner .loads bytes l → (r : Refusal) → (l .answer ≡ Said.Refused r) ↔ (reading bytes ≡ refused (numberOf r))
+    pub load-refuses : (bytes : List ℕ) (l : AfterLoad) → library .runner .loads bytes l → (r : Refusal) → (l .answer ≡ Acceptance.Refused r) ↔ (reading bytes ≡ refused (numberOf r))
     pub verify-refuses : (bytes : List ℕ) (budget : ℕ) (old : List ℕ) (a : Verdict) (memory : List ℕ) → library .verifies bytes budget old a memory → longestTrace ≤ length old
         → (r : Refusal) → (a ≡ Verdict.Refused r) ↔ (reading bytes ≡ refused (numberOf r))
     pub check-refuses : (bytes shown : List ℕ) (a : Checked) → library .checks bytes shown a → (r : Refusal) → (a ≡ Checked.Refused r) ↔ (reading bytes ≡ refused (numberOf r))

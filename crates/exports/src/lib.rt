@@ -7,7 +7,7 @@ use printing::print;
 use progression::Place;
 use progression::settle;
 use progression::step;
-use reader::Answer;
+use reader::Acceptance;
 use routine::HEAD_CELLS;
 use routine::NODE_CELLS;
 use routine::Prepared;
@@ -37,12 +37,12 @@ ghost use Rattle.exports.specs.Numbers.{numberFor, startWords, placeNumb
 const WORDS: usize = 4;
 
 // The reader's answer as a number.
-fn answer_number(answer: Answer) -> u8
+fn answer_number(answer: Acceptance) -> u8
     ensures { λ r. ⌜ r ≡ numberFor (answerOf answer) ⌝ }
 {
     match answer {
-        Answer::Accepted => 0,
-        Answer::Refused(r) => reader::number(r),
+        Acceptance::Accepted => 0,
+        Acceptance::Refused(r) => reader::number(r),
     }
 }
 

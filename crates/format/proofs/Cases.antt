@@ -5,8 +5,10 @@ use Prim.Native.Nat.{ℕ}
 use mathlib.Core.List.{List, [], _∷_, _++_}
 use mathlib.Core.Path.{_≡_, refl}
 use lib.ListN.{replicate}
-use Rattle.format.specs.Syntax.{top, fact, negation, known, any-of, end, act, probe}
-use Rattle.format.specs.Format.{accepted, refused, reading}
+use lib.Dec.{eqb}
+use Rattle.format.specs.Syntax.{top, fact, negation, known, any-of, end, act, probe, Sheet}
+use Rattle.format.specs.Truth.{moves}
+use Rattle.format.specs.Format.{Answer, accepted, refused, leadsOn, unless, readingBy, reading}
 
 -- A row: the bytes, and the number of their refusal.
 pub record Row : Type 0 where
@@ -44,8 +46,11 @@ abbrev pub orders : List Row
 orders =
     -- 1 before 3: 1,025 bytes, and edition 2.
     row (replicate 1025 0x21) 1
-    -- 3 before 4: edition 2, and no fact.
+    -- 3 before 4: edition 2, and no fact; and edition 0.
     ∷ row (0x20 ∷ []) 3
+    ∷ row (0x01 ∷ []) 3
+    -- 4: nine facts.
+    ∷ row (0x19 ∷ []) 4
     -- 5 before 2: a probe of 9 replies, and the sheet ends before the first.
     ∷ row (0x11 ∷ 0x10 ∷ 0xE4 ∷ []) 5
     -- 7 before 2: a new fact as start formula, and the sheet ends before its number.
@@ -70,7 +75,7 @@ orders =
 
 pub orders-hold : AllRefused orders
 unfolding reading
-orders-hold = (refl, (refl, (refl, (refl, (refl, (refl, (refl, (refl, (refl, (refl, (refl, (refl, tt))))))))))))
+orders-hold = (refl, (refl, (refl, (refl, (refl, (refl, (refl, (refl, (refl, (refl, (refl, (refl, (refl, (refl, tt))))))))))))))
 
 -- Sample 1 is accepted, as this sheet: its probe has two replies, and in each state only one of them is true.
 abbrev pub sample1 : List ℕ
@@ -86,3 +91,17 @@ pub accepted-holds : reading sample1
     })
 unfolding reading
 accepted-holds = refl
+
+-- A reading of edition 0 that asks for next states alone: of a probe with the one reply "fact 0" no state is without next state, and one is without reply.
+abbrev pub ofEdition0 : List ℕ → Answer Sheet
+ofEdition0 = readingBy (λ edition. eqb edition 0) (λ space a. unless (leadsOn space (moves a)) 14)
+
+pub other-holds : ofEdition0 (0x01 ∷ 0x0C ∷ 0x50 ∷ 0x21 ∷ 0x00 ∷ [])
+    ≡ accepted (record { facts = 1; actions = probe (fact 0 ∷ []) ∷ []; start = top; goal = known top; program = end })
+unfolding readingBy leadsOn moves unless
+other-holds = refl
+
+-- A theory that is false is refused there too, and edition 1 isn't taken.
+pub other-refuses : (ofEdition0 (0x01 ∷ 0x08 ∷ 0x10 ∷ 0x80 ∷ []) ≡ refused 14) × (ofEdition0 (0x11 ∷ 0x0C ∷ 0x50 ∷ 0x21 ∷ 0x00 ∷ []) ≡ refused 3)
+unfolding readingBy leadsOn moves unless
+other-refuses = (refl, refl)

@@ -10,7 +10,7 @@ use Rattle.lists.specs.Lists.{if_then_else_}
 use Rattle.format.specs.Syntax.{Objective, bottom, top, fact, new-fact, negation, conjunction, disjunction, equivalence, Epistemic, known, not-known, all-of, any-of, end, Action, change, probe, Sheet}
 use Rattle.format.specs.Bits.{bitsAt}
 use Rattle.format.specs.Truth.{states, moves}
-use Rattle.format.specs.Format.{refused, Read, got, fault, Reader, andThen, _>>=_, give, refuse, check, field, factNumber, objectiveBehind, objective, EpistemicNode, known-node, not-known-node, all-of-node, any-of-node, epistemicNode, epistemicBehind, epistemic, objectives, Kind, changes, probes, kind, replyTotal, theory, replies, actionBehind, action, actionList, ProgramRead, ProgramNode, end-node, act-node, branch-node, programNode, programBehind, programWithin, levels, program, mostBytes, mostFacts, mostReplies, deepest, mostActs, mostBranches, Header, header, body, sheetFields, isPadding, hasStart, leadsOn, hasReply, unless, actionFaults, faults, decided, afterFields, ofSheet, readingBy, isEdition, reading}
+use Rattle.format.specs.Format.{refused, Read, got, fault, Reader, andThen, _>>=_, give, refuse, check, field, factNumber, objectiveBehind, objective, EpistemicNode, known-node, not-known-node, all-of-node, any-of-node, epistemicNode, epistemicBehind, epistemic, objectives, Kind, changes, probes, kind, replyTotal, theoryOver, repliesOver, actionBehind, action, actionList, ProgramRead, ProgramNode, end-node, act-node, branch-node, programNode, programBehind, programWithin, levels, program, mostBytes, mostFacts, mostReplies, deepest, mostActs, mostBranches, Header, header, body, sheetFields, isPadding, hasStart, leadsOn, hasReply, unless, actionFaults, faults, decided, afterFields, ofSheet, readingBy, isEdition, reading}
 
 -- One of the numbers.
 abbrev pub IsNumber : ℕ → Type 0
@@ -105,10 +105,10 @@ module _ (n : ℕ) where
       numbered-behind (objective n false deepest) _ (objective-numbered false deepest) (λ f. numbered-behind (objectives n m) _ (objectives-numbered m) (λ fs. numbered-give (f ∷ fs)))
 
   action-behind-numbered : (h : Kind) → Numbered (actionBehind n h)
-  unfolding actionBehind replies replyTotal
-  action-behind-numbered changes = numbered-behind (theory n) _ (objective-numbered true deepest) (λ f. numbered-give (change f))
+  unfolding actionBehind repliesOver replyTotal
+  action-behind-numbered changes = numbered-behind (theoryOver n) _ (objective-numbered true deepest) (λ f. numbered-give (change f))
   action-behind-numbered probes =
-      numbered-behind (replies n) _
+      numbered-behind (repliesOver n) _
       (numbered-behind replyTotal _ (numbered-behind (field 4) _ (numbered-field 4) (λ m. numbered-check (leb 1 m && leb m mostReplies) 5 _ (omega arith, omega arith) (numbered-give m))) objectives-numbered)
       (λ fs. numbered-give (probe fs))
 

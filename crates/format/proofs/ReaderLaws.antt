@@ -10,7 +10,7 @@ use lib.ListN.{length}
 use borrow.Author.Tests.{lt-ltb, le-ltb, le-leb, lt-leb}
 use Rattle.lists.specs.Lists.{if_then_else_}
 use Rattle.format.specs.Syntax.{Objective, Epistemic, known, not-known, all-of, any-of, Action, change, probe, end}
-use Rattle.format.specs.Format.{Read, got, fault, Reader, andThen, _>>=_, mapped, give, refuse, check, field, mostBytes, deepest, factNumber, objectiveBehind, objective, EpistemicNode, known-node, not-known-node, all-of-node, any-of-node, epistemicNode, epistemicBehind, epistemic, objectives, changes, probes, kind, replyTotal, theory, replies, actionBehind, action, actionList, ProgramNode, programNode, programBehind, programWithin, ofSheet}
+use Rattle.format.specs.Format.{Read, got, fault, Reader, andThen, _>>=_, mapped, give, refuse, check, field, mostBytes, deepest, factNumber, objectiveBehind, objective, EpistemicNode, known-node, not-known-node, all-of-node, any-of-node, epistemicNode, epistemicBehind, epistemic, objectives, changes, probes, kind, replyTotal, theoryOver, repliesOver, actionBehind, action, actionList, ProgramNode, programNode, programBehind, programWithin, ofSheet}
 use Rattle.format.proofs.FormatLaws.{Behind, got-behind, behind-got, behind-fault}
 
 module _ {A B : Type 0} (f : A → B) where
@@ -215,21 +215,21 @@ module _ (n : ℕ) (bytes : List ℕ) (p : ℕ) where
   action-refused e = behind-fault kind (actionBehind n) bytes p e
 
   module _ {q : ℕ} where
-    pub action-change : kind bytes p ≡ got changes q → action n bytes p ≡ mapped change (theory n bytes q)
+    pub action-change : kind bytes p ≡ got changes q → action n bytes p ≡ mapped change (theoryOver n bytes q)
     unfolding action actionBehind
-    action-change e = behind-got kind (actionBehind n) bytes p e ∙ give-mapped change (theory n) bytes q
+    action-change e = behind-got kind (actionBehind n) bytes p e ∙ give-mapped change (theoryOver n) bytes q
 
-    pub action-probe : kind bytes p ≡ got probes q → action n bytes p ≡ mapped probe (replies n bytes q)
+    pub action-probe : kind bytes p ≡ got probes q → action n bytes p ≡ mapped probe (repliesOver n bytes q)
     unfolding action actionBehind
-    action-probe e = behind-got kind (actionBehind n) bytes p e ∙ give-mapped probe (replies n) bytes q
+    action-probe e = behind-got kind (actionBehind n) bytes p e ∙ give-mapped probe (repliesOver n) bytes q
 
   -- The replies of a probe, by their count.
-  pub replies-refused : {r : ℕ} → replyTotal bytes p ≡ fault r → replies n bytes p ≡ fault r
-  unfolding replies
+  pub replies-refused : {r : ℕ} → replyTotal bytes p ≡ fault r → repliesOver n bytes p ≡ fault r
+  unfolding repliesOver
   replies-refused e = behind-fault replyTotal (objectives n) bytes p e
 
-  pub replies-counted : {m q : ℕ} → replyTotal bytes p ≡ got m q → replies n bytes p ≡ objectives n m bytes q
-  unfolding replies
+  pub replies-counted : {m q : ℕ} → replyTotal bytes p ≡ got m q → repliesOver n bytes p ≡ objectives n m bytes q
+  unfolding repliesOver
   replies-counted e = behind-got replyTotal (objectives n) bytes p e
 
   -- Formulas one after the other: none; the first and those behind it; the first is refused.

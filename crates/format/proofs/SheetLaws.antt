@@ -12,7 +12,7 @@ use Rattle.lists.specs.Lists.{if_then_else_, upFrom, below, exists}
 use Rattle.lists.proofs.ListLaws.{not-both, both-true, and-both, mem-flat, every-mem, mem-every, exists-mem, mem-exists}
 use Rattle.format.specs.Syntax.{Objective, bottom, top, fact, new-fact, negation, conjunction, disjunction, equivalence, Epistemic, known, not-known, all-of, any-of, Program, end, act, branch, Action, change, probe, replyCount, actionNodes, branchNodes, Sheet, actionOf}
 use Rattle.format.specs.Truth.{isState, states, truth, holds, moves, replyHolds, allowed}
-use Rattle.format.specs.Format.{accepted, refused, Read, got, fault, Reader, andThen, _>>=_, give, field, factNumber, objectiveBehind, objective, EpistemicNode, known-node, not-known-node, all-of-node, any-of-node, epistemicNode, epistemicBehind, epistemic, objectives, Kind, changes, probes, kind, replyTotal, theory, replies, actionBehind, action, actionList, ProgramRead, ProgramNode, end-node, act-node, branch-node, programNode, programBehind, programWithin, levels, program, mostBytes, mostFacts, mostReplies, deepest, mostActs, mostBranches, Header, header, body, sheetFields, isPadding, hasStart, leadsOn, hasReply, unless, actionFaults, faults, decided, afterFields, ofSheet, readingBy, isEdition, reading}
+use Rattle.format.specs.Format.{accepted, refused, Read, got, fault, Reader, andThen, _>>=_, give, field, factNumber, objectiveBehind, objective, EpistemicNode, known-node, not-known-node, all-of-node, any-of-node, epistemicNode, epistemicBehind, epistemic, objectives, Kind, changes, probes, kind, replyTotal, theoryOver, repliesOver, actionBehind, action, actionList, ProgramRead, ProgramNode, end-node, act-node, branch-node, programNode, programBehind, programWithin, levels, program, mostBytes, mostFacts, mostReplies, deepest, mostActs, mostBranches, Header, header, body, sheetFields, isPadding, hasStart, leadsOn, hasReply, unless, actionFaults, faults, decided, afterFields, ofSheet, readingBy, isEdition, reading}
 use Rattle.format.proofs.StateLaws.{state-listed, listed-state}
 use Rattle.format.proofs.FormatLaws.{Gives, gives-give, gives-refuse, gives-if, gives-check, gives-behind, gives-any, field-below, NumbersBelow, Counts, program-counts}
 
@@ -46,12 +46,12 @@ count-few =
     gives-give (λ i. (1 ≤ i) × (i ≤ mostReplies)) m (leb-true 1 m (u .0), leb-true m mostReplies (u .1))))
 
 behind-few : (n : ℕ) (h : Kind) → Gives FewReplies (actionBehind n h)
-unfolding actionBehind replies replyCount
-behind-few n changes = gives-any FewReplies (theory n) _ (λ f. gives-give FewReplies (change f) (omega arith, omega arith))
+unfolding actionBehind repliesOver replyCount
+behind-few n changes = gives-any FewReplies (theoryOver n) _ (λ f. gives-give FewReplies (change f) (omega arith, omega arith))
 behind-few n probes =
-    gives-behind (λ fs. (1 ≤ length fs) × (length fs ≤ mostReplies)) FewReplies (replies n) _ many (λ fs l. gives-give FewReplies (probe fs) l)
+    gives-behind (λ fs. (1 ≤ length fs) × (length fs ≤ mostReplies)) FewReplies (repliesOver n) _ many (λ fs l. gives-give FewReplies (probe fs) l)
   where
-    many : Gives (λ fs. (1 ≤ length fs) × (length fs ≤ mostReplies)) (replies n)
+    many : Gives (λ fs. (1 ≤ length fs) × (length fs ≤ mostReplies)) (repliesOver n)
     many = gives-behind (λ m. (1 ≤ m) × (m ≤ mostReplies)) (λ fs. (1 ≤ length fs) × (length fs ≤ mostReplies)) replyTotal _ count-few (λ m few bytes p fs q e. let l = objectives-long n m bytes p fs q e in (omega (arith, few .0, l), omega (arith, few .1, l)))
 
 action-few : (n : ℕ) → Gives FewReplies (action n)
@@ -228,7 +228,7 @@ accepted-passed bytes sheet e = record {
     padding = unless (isPadding bytes (how .position)) 12
 
     each : Action → List ℕ
-    each a = unless (leadsOn (states sheet) (moves a)) 14 ++ unless (hasReply (states sheet) a) 15
+    each = actionFaults (states sheet)
 
     none : {r : ℕ} → List·Memᴰ r (padding ++ unless (hasStart (states sheet) (sheet .start)) 13 ++ flatMap each (sheet .actions)) → ⊥
     none {r} m = List·Memᴰ·not-nil (subst (λ (rs : List ℕ). List·Memᴰ r rs) (how .faultless) m)
@@ -246,6 +246,11 @@ module _ (space : List ℕ) where
   pub probe-faults : (fs : List Objective) → actionFaults space (probe fs) ≡ unless (hasReply space (probe fs)) 15
   unfolding actionFaults leadsOn moves unless
   probe-faults fs = rw (mem-every (λ s. exists (λ t. eqb s t) space) space (λ s m. mem-exists (λ t. eqb s t) space m (eq-eqb s s refl)))
+
+-- Where there is a start state, the start formula holds in it.
+pub start-state : (space : List ℕ) (f : Objective) → hasStart space f ≡ true → (s : ℕ) × List·Memᴰ s space × (holds f s ≡ true)
+unfolding hasStart
+start-state space f e = exists-mem (holds f) space e
 
 -- An action that leads on and has a reply in each state has a step from each state.
 pub action-steps : (sheet : Sheet) (a : Action) → leadsOn (states sheet) (moves a) ≡ true → hasReply (states sheet) a ≡ true → (s : ℕ) → isState sheet s ≡ true
@@ -408,10 +413,10 @@ module _ (n : ℕ) where
       gives-give _ (f ∷ fs) (mem-more (ObjectiveFacts n) f fs h k)))
 
   action-behind-facts : (h : Kind) → Gives (ActionFacts n) (actionBehind n h)
-  unfolding actionBehind replies ActionFacts
-  action-behind-facts changes = gives-behind (FactsBelow n) (ActionFacts n) (theory n) _ (theory-facts deepest) (λ f h. gives-give (ActionFacts n) (change f) h)
+  unfolding actionBehind repliesOver ActionFacts
+  action-behind-facts changes = gives-behind (FactsBelow n) (ActionFacts n) (theoryOver n) _ (theory-facts deepest) (λ f h. gives-give (ActionFacts n) (change f) h)
   action-behind-facts probes =
-      gives-behind (λ fs. (f : Objective) → List·Memᴰ f fs → ObjectiveFacts n f) (ActionFacts n) (replies n) _ (gives-any _ replyTotal _ replies-facts) (λ fs h. gives-give (ActionFacts n) (probe fs) h)
+      gives-behind (λ fs. (f : Objective) → List·Memᴰ f fs → ObjectiveFacts n f) (ActionFacts n) (repliesOver n) _ (gives-any _ replyTotal _ replies-facts) (λ fs h. gives-give (ActionFacts n) (probe fs) h)
 
   one-action-facts : Gives (ActionFacts n) (action n)
   unfolding action

@@ -9,7 +9,7 @@ use lib.ListN.{length}
 use borrow.Author.Tests.{ltb-true}
 use Rattle.lists.proofs.ListLaws.{both-true}
 use Rattle.format.specs.Syntax.{Objective, Epistemic, known, not-known, all-of, any-of, Program, end, act, branch, Action, change, probe, Sheet}
-use Rattle.format.specs.Format.{accepted, got, Reader, deepest, objective, EpistemicNode, known-node, not-known-node, all-of-node, any-of-node, epistemicNode, epistemicBehind, epistemic, objectives, Kind, changes, probes, kind, replyTotal, theory, replies, actionBehind, action, actionList, ProgramRead, ProgramNode, end-node, act-node, branch-node, programNode, programBehind, programWithin, levels, program, header, body, isEdition, sheetFields, isPadding, mostBytes, mostReplies, mostActs, mostBranches, reading}
+use Rattle.format.specs.Format.{accepted, got, Reader, deepest, objective, EpistemicNode, known-node, not-known-node, all-of-node, any-of-node, epistemicNode, epistemicBehind, epistemic, objectives, Kind, changes, probes, kind, replyTotal, theoryOver, repliesOver, actionBehind, action, actionList, ProgramRead, ProgramNode, end-node, act-node, branch-node, programNode, programBehind, programWithin, levels, program, header, body, isEdition, sheetFields, isPadding, mostBytes, mostReplies, mostActs, mostBranches, reading}
 use Rattle.format.specs.Standing.{ObjectiveAt, RepliesAt, ActionAt, ActionsAt, EpistemicAt, ProgramAt, Standing}
 use Rattle.format.proofs.FormatLaws.{Finds, finds-give, finds-refuse, finds-if, finds-check, finds-behind, finds-field, got-behind, node-anywhere}
 use Rattle.format.proofs.FormulaLaws.{objective-levels, objective-onward}
@@ -27,10 +27,10 @@ module _ (bytes : List ℕ) (n : ℕ) where
 
   -- An action that is read stands there.
   standing-behind : (p r : ℕ) (h : Kind) → kind bytes p ≡ got h r → Finds bytes r (λ a q. ActionAt bytes n a p q) (actionBehind n h)
-  unfolding actionBehind replies ActionAt
-  standing-behind p r changes e = finds-behind bytes r _ (theory n) _ (λ f q h. finds-give bytes q _ (change f) (r, e, h))
+  unfolding actionBehind repliesOver ActionAt
+  standing-behind p r changes e = finds-behind bytes r _ (theoryOver n) _ (λ f q h. finds-give bytes q _ (change f) (r, e, h))
   standing-behind p r probes e =
-      finds-behind bytes r _ (replies n) _ (λ fs q h.
+      finds-behind bytes r _ (repliesOver n) _ (λ fs q h.
       let w = got-behind replyTotal (objectives n) bytes r fs q h in
       finds-give bytes q _ (probe fs)
       (r, e, w .middle, rw (objectives-long n (w .value) bytes (w .middle) fs q (w .second)) (w .first), standing-replies (w .value) (w .middle) .found fs q (w .second)))

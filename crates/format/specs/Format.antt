@@ -153,19 +153,19 @@ replyTotal = do
   m ← field 4
   check (leb 1 m && leb m mostReplies) 5 (give m)
 
--- A theory; the replies of a probe behind their count.
-abbrev pub theory : (n : ℕ) → Reader Objective
-theory n = objective n true deepest
+-- A theory over n facts; the replies of a probe, behind their count.
+abbrev pub theoryOver : (n : ℕ) → Reader Objective
+theoryOver n = objective n true deepest
 
-unfoldable pub replies : (n : ℕ) → Reader (List Objective)
+unfoldable pub repliesOver : (n : ℕ) → Reader (List Objective)
 unfolding replyTotal objectives _>>=_
-replies n = replyTotal >>= objectives n
+repliesOver n = replyTotal >>= objectives n
 
 -- An action behind its kind.
 unfoldable pub actionBehind : (n : ℕ) → Kind → Reader Action
-unfolding objective replies _>>=_ give
-actionBehind n changes = do f ← theory n; give (change f)
-actionBehind n probes = do fs ← replies n; give (probe fs)
+unfolding objective repliesOver _>>=_ give
+actionBehind n changes = do f ← theoryOver n; give (change f)
+actionBehind n probes = do fs ← repliesOver n; give (probe fs)
 
 unfoldable pub action : (n : ℕ) → Reader Action
 unfolding kind actionBehind _>>=_
@@ -233,7 +233,7 @@ unfoldable pub program : (n k : ℕ) → Reader ProgramRead
 unfolding programWithin
 program n k = programWithin n k levels 0 0
 
--- What the header says: the edition, by which the fields behind it are read (edition 1: as `body` does), the number of facts and the number of actions.
+-- What the header says: the edition, the number of facts and the number of actions. (Of one edition there is nothing to decide behind it.)
 pub record Header : Type 0 where
   pub edition : ℕ
   pub facts : ℕ

@@ -5,14 +5,15 @@ use libc::STDIN_FILENO;
 use libc::STDOUT_FILENO;
 use printing::LINES;
 ghost use mathlib.Core.Path.{_≡_};
-ghost use Prim.Native.Nat.{_≤_, _-_};
+ghost use Prim.Native.Nat.{_≤_, _<_, _-_};
 ghost use lib.ListN.{length};
 ghost use Rattle.libc.specs.Io.{Moved};
 ghost use Rattle.routine.specs.Memory.{write};
+ghost use Rattle.format.specs.Format.{mostBytes};
 ghost use Rattle.planverify.specs.Input.{afterRead, Within, linesFor};
 
 // One byte more than a sheet may have, so that a longer input is refused.
-const MOST: usize = 1025;
+const MOST: usize = reader::BYTES + 1;
 
 // The input: so many bytes, to its end or as many as there is room for; or it couldn't be read.
 enum Input {
@@ -45,8 +46,9 @@ fn after(done: usize, most: usize, got: isize) -> Next
     Next::Over(Input::Read(n))
 }
 
-// Reads standard input to its end, or until `sheet` is full.
+// Reads standard input to its end, or until `sheet` is full, which has room for more than a sheet may have.
 fn read_input(sheet: &mut [u8]) -> Input
+    requires { ⌜ mostBytes < length (now sheet) ⌝ }
     ensures { λ r. ⌜ Within r (length (now (sheet .exit))) ⌝ }
 {
     let mut done = 0;

@@ -7,7 +7,7 @@ use Rattle.lists.specs.Lists.{if_then_else_}
 use Rattle.format.specs.Format.{Answer, accepted, refused}
 use Rattle.reader.specs.Answers.{numberOf, answerOf, withoutValue}
 use Rattle.reader.specs.declared.refusal.Refusal.{Refusal}
-use Rattle.reader.specs.declared.sheet.Answer.{Answer as Said}
+use Rattle.reader.specs.declared.sheet.Acceptance.{Acceptance}
 
 -- The refusal of a number.
 pub refusalOf : ℕ → Refusal
@@ -51,17 +51,17 @@ pub same-number : (r q : Refusal) → numberOf r ≡ numberOf q → r ≡ q
 same-number r q e = sym (number-refusal r) ∙ ap refusalOf e ∙ number-refusal q
 
 -- The answer of a meaning.
-saidOf : Answer (Unit {0}) → Said
-saidOf (accepted u) = Said.Accepted
-saidOf (refused k) = Said.Refused (refusalOf k)
+saidOf : Answer (Unit {0}) → Acceptance
+saidOf (accepted u) = Acceptance.Accepted
+saidOf (refused k) = Acceptance.Refused (refusalOf k)
 
-said-answer : (a : Said) → saidOf (answerOf a) ≡ a
+said-answer : (a : Acceptance) → saidOf (answerOf a) ≡ a
 unfolding saidOf answerOf
-said-answer Said.Accepted = refl
-said-answer (Said.Refused r) = ap Said.Refused (number-refusal r)
+said-answer Acceptance.Accepted = refl
+said-answer (Acceptance.Refused r) = ap Acceptance.Refused (number-refusal r)
 
 -- Answers with the same meaning are the same.
-pub same-answer : (a b : Said) → answerOf a ≡ answerOf b → a ≡ b
+pub same-answer : (a b : Acceptance) → answerOf a ≡ answerOf b → a ≡ b
 same-answer a b e = sym (said-answer a) ∙ ap saidOf e ∙ said-answer b
 
 -- What an answer without its value tells of the answer.

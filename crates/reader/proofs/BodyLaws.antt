@@ -21,7 +21,7 @@ use Rattle.format.proofs.ReaderLaws.{mapped-got, mapped-fault, mapped-give}
 use Rattle.format.proofs.SheetLaws.{program-is, reading-refused, header-short, header-limits, reading-body}
 use Rattle.format.proofs.StateLaws.{space-bytes}
 use Rattle.reader.specs.Answers.{withoutValue, spaced, statesIn}
-use Rattle.reader.specs.Method.{passedTo, ending, counts, startSet}
+use Rattle.reader.specs.Method.{passedTo, ending, counts, startStates}
 use Rattle.reader.specs.declared.formula.View.{View}
 use Rattle.reader.specs.declared.formula.Walked.{Walked}
 
@@ -46,44 +46,44 @@ module _ (bytes : List ℕ) (p : ℕ) where
 
 -- The fields behind the header, as far as the code keeps them: the set of the start formula, and where they end.
 module _ (h : Header) (bytes : List ℕ) (p : ℕ) where
-  pub no-actions : {r : ℕ} → mapped ending (actionList (h .facts) (h .actions) bytes p) ≡ fault r → mapped startSet (body h bytes p) ≡ fault r
+  pub no-actions : {r : ℕ} → mapped ending (actionList (h .facts) (h .actions) bytes p) ≡ fault r → mapped startStates (body h bytes p) ≡ fault r
   unfolding mapped
-  no-actions e = ap (mapped startSet) (behind-fault (actionList (h .facts) (h .actions)) _ bytes p (mapped-fault ending (actionList (h .facts) (h .actions) bytes p) e))
+  no-actions e = ap (mapped startStates) (behind-fault (actionList (h .facts) (h .actions)) _ bytes p (mapped-fault ending (actionList (h .facts) (h .actions) bytes p) e))
 
   module _ {q : ℕ} (e : mapped ending (actionList (h .facts) (h .actions) bytes p) ≡ got tt q) where
-    pub no-start : {r : ℕ} → mapped (statesIn View.States) (objective (h .facts) false deepest bytes q) ≡ fault r → mapped startSet (body h bytes p) ≡ fault r
+    pub no-start : {r : ℕ} → mapped (statesIn View.States) (objective (h .facts) false deepest bytes q) ≡ fault r → mapped startStates (body h bytes p) ≡ fault r
     unfolding mapped
     no-start f =
-        ap (mapped startSet) (behind-got (actionList (h .facts) (h .actions)) _ bytes p (mapped-got ending (actionList (h .facts) (h .actions) bytes p) e .1)
+        ap (mapped startStates) (behind-got (actionList (h .facts) (h .actions)) _ bytes p (mapped-got ending (actionList (h .facts) (h .actions) bytes p) e .1)
         ∙ behind-fault (objective (h .facts) false deepest) _ bytes q (mapped-fault (statesIn View.States) (objective (h .facts) false deepest bytes q) f))
 
     module _ {set : States} {i : ℕ} (f : mapped (statesIn View.States) (objective (h .facts) false deepest bytes q) ≡ got set i) where
-      pub no-goal : {r : ℕ} → mapped ending (epistemic (h .facts) deepest bytes i) ≡ fault r → mapped startSet (body h bytes p) ≡ fault r
+      pub no-goal : {r : ℕ} → mapped ending (epistemic (h .facts) deepest bytes i) ≡ fault r → mapped startStates (body h bytes p) ≡ fault r
       unfolding mapped
       no-goal g =
-          ap (mapped startSet) (behind-got (actionList (h .facts) (h .actions)) _ bytes p (mapped-got ending (actionList (h .facts) (h .actions) bytes p) e .1)
+          ap (mapped startStates) (behind-got (actionList (h .facts) (h .actions)) _ bytes p (mapped-got ending (actionList (h .facts) (h .actions) bytes p) e .1)
           ∙ behind-got (objective (h .facts) false deepest) _ bytes q (mapped-got (statesIn View.States) (objective (h .facts) false deepest bytes q) f .1)
           ∙ behind-fault (epistemic (h .facts) deepest) _ bytes i (mapped-fault ending (epistemic (h .facts) deepest bytes i) g))
 
       module _ {j : ℕ} (g : mapped ending (epistemic (h .facts) deepest bytes i) ≡ got tt j) where
         -- What is left is the program.
-        program-left : mapped startSet (body h bytes p) ≡ mapped (λ (c : ProgramRead). set) (programWithin (h .facts) (h .actions) levels 0 0 bytes j)
-        unfolding startSet
+        program-left : mapped startStates (body h bytes p) ≡ mapped (λ (c : ProgramRead). set) (programWithin (h .facts) (h .actions) levels 0 0 bytes j)
+        unfolding startStates
         program-left =
             let x = mapped-got ending (actionList (h .facts) (h .actions) bytes p) e in
             let y = mapped-got (statesIn View.States) (objective (h .facts) false deepest bytes q) f in
             let z = mapped-got ending (epistemic (h .facts) deepest bytes i) g in
-            ap (mapped startSet) (behind-got (actionList (h .facts) (h .actions)) _ bytes p (x .1) ∙ behind-got (objective (h .facts) false deepest) _ bytes q (y .1)
+            ap (mapped startStates) (behind-got (actionList (h .facts) (h .actions)) _ bytes p (x .1) ∙ behind-got (objective (h .facts) false deepest) _ bytes q (y .1)
             ∙ behind-got (epistemic (h .facts) deepest) _ bytes i (z .1))
-            ∙ mapped-give startSet (program (h .facts) (h .actions)) (λ c. record { facts = h .facts; actions = x .0; start = y .0; goal = z .0; program = c .program }) bytes j
+            ∙ mapped-give startStates (program (h .facts) (h .actions)) (λ c. record { facts = h .facts; actions = x .0; start = y .0; goal = z .0; program = c .program }) bytes j
             ∙ ap (λ (s : States). mapped (λ (c : ProgramRead). s) (program (h .facts) (h .actions) bytes j)) (y .2)
             ∙ ap (mapped (λ (c : ProgramRead). set)) (program-is (h .facts) (h .actions) bytes j)
 
-        pub no-program : {r : ℕ} → mapped counts (programWithin (h .facts) (h .actions) levels 0 0 bytes j) ≡ fault r → mapped startSet (body h bytes p) ≡ fault r
+        pub no-program : {r : ℕ} → mapped counts (programWithin (h .facts) (h .actions) levels 0 0 bytes j) ≡ fault r → mapped startStates (body h bytes p) ≡ fault r
         unfolding mapped
         no-program k = program-left ∙ ap (mapped (λ (c : ProgramRead). set)) (mapped-fault counts (programWithin (h .facts) (h .actions) levels 0 0 bytes j) k)
 
-        pub body-got : {c : ℕ × ℕ} {l : ℕ} → mapped counts (programWithin (h .facts) (h .actions) levels 0 0 bytes j) ≡ got c l → mapped startSet (body h bytes p) ≡ got set l
+        pub body-got : {c : ℕ × ℕ} {l : ℕ} → mapped counts (programWithin (h .facts) (h .actions) levels 0 0 bytes j) ≡ got c l → mapped startStates (body h bytes p) ≡ got set l
         unfolding mapped
         body-got k = program-left ∙ ap (mapped (λ (c : ProgramRead). set)) (mapped-got counts (programWithin (h .facts) (h .actions) levels 0 0 bytes j) k .1)
 
@@ -146,9 +146,9 @@ module _ (h : Header) (few : h .facts ≤ mostFacts) (bytes : List ℕ) (p : ℕ
   unfolding faults unless decided withoutValue
   unpadded e = rw e
 
-  module _ (padded : isPadding bytes q ≡ true) {common : States} (e : common ≡ setOf (λ s. member (startSet sheet) s && member (setOf (inSpace (h .facts))) s)) where
+  module _ (padded : isPadding bytes q ≡ true) {common : States} (e : common ≡ setOf (λ s. member (startStates sheet) s && member (setOf (inSpace (h .facts))) s)) where
     has-start : hasStart (states sheet) (sheet .start) ≡ nonempty (members common)
-    unfolding hasStart startSet
+    unfolding hasStart startStates
     has-start =
         ap (exists (holds (sheet .start))) space-is ∙ common-start (setOf (inSpace (h .facts))) (sheet .start) ∙ ap (λ (x : States). nonempty (members x)) (sym e)
 
@@ -193,14 +193,14 @@ module _ (bytes : List ℕ) where
     read-space = header-is .1
 
     -- The fields behind it are refused.
-    pub no-body : {r : ℕ} → mapped startSet (body h bytes p) ≡ fault r → withoutValue (reading bytes) ≡ refused r
+    pub no-body : {r : ℕ} → mapped startStates (body h bytes p) ≡ fault r → withoutValue (reading bytes) ≡ refused r
     unfolding withoutValue afterFields
-    no-body f = ap withoutValue (reading-body bytes (header-is .0)) ∙ ap (λ (x : Read Sheet). withoutValue (afterFields actionFaults bytes x)) (mapped-fault startSet (body h bytes p) f)
+    no-body f = ap withoutValue (reading-body bytes (header-is .0)) ∙ ap (λ (x : Read Sheet). withoutValue (afterFields actionFaults bytes x)) (mapped-fault startStates (body h bytes p) f)
 
     -- They are read, and tested.
-    pub read-tested : {start : States} {q : ℕ} {a : Answer (Unit {0})} → mapped startSet (body h bytes p) ≡ got start q
-        → ((sheet : Sheet) → body h bytes p ≡ got sheet q → start ≡ startSet sheet → a ≡ withoutValue (decided (faults actionFaults bytes q sheet) sheet)) → a ≡ withoutValue (reading bytes)
+    pub read-tested : {start : States} {q : ℕ} {a : Answer (Unit {0})} → mapped startStates (body h bytes p) ≡ got start q
+        → ((sheet : Sheet) → body h bytes p ≡ got sheet q → start ≡ startStates sheet → a ≡ withoutValue (decided (faults actionFaults bytes q sheet) sheet)) → a ≡ withoutValue (reading bytes)
     unfolding afterFields
     read-tested f g =
-        let w = mapped-got startSet (body h bytes p) f in
+        let w = mapped-got startStates (body h bytes p) f in
         g (w .0) (w .1) (sym (w .2)) ∙ sym (ap withoutValue (reading-body bytes (header-is .0)) ∙ ap (λ (x : Read Sheet). withoutValue (afterFields actionFaults bytes x)) (w .1))

@@ -15,11 +15,11 @@ use Rattle.states.specs.Sets.{member, setOf, members}
 use Rattle.states.proofs.SetLaws.{member-setOf, set-cong, members-mem, mem-members}
 use Rattle.format.specs.Syntax.{Objective, bottom, Action, change, probe, replyCount}
 use Rattle.format.specs.Truth.{truth, holds, replyHolds}
-use Rattle.format.specs.Format.{Answer, accepted, refused, got, fault, mapped, deepest, objective, objectives, changes, probes, kind, theory, replies, action, actionList, unless, leadsOn, hasReply, actionFaults, decided}
+use Rattle.format.specs.Format.{accepted, refused, Read, got, fault, mapped, deepest, objective, objectives, changes, probes, kind, theoryOver, repliesOver, action, actionList, unless, leadsOn, hasReply, actionFaults, decided}
 use Rattle.format.proofs.ReaderLaws.{mapped-got, mapped-fault, mapped-same, mapped-twice, action-refused, action-change, action-probe, objectives-none, objectives-more, objectives-refused, actions-none, actions-more, actions-refused, actions-split}
 use Rattle.format.proofs.SheetLaws.{change-faults, probe-faults}
 use Rattle.reader.specs.Answers.{numberOf, statesIn}
-use Rattle.reader.specs.Method.{endRead, passedTo, ending, someHolds}
+use Rattle.reader.specs.Method.{tested, passedTo, ending, someHolds}
 use Rattle.reader.proofs.EndLaws.{ends-mapped}
 use Rattle.reader.specs.declared.refusal.Refusal.{Refusal}
 use Rattle.reader.specs.declared.formula.View.{View}
@@ -102,6 +102,22 @@ module _ (n : ℕ) (bytes : List ℕ) (p k i : ℕ) where
   unfolding mapped ending
   list-end all = let l : k - i ≡ 0 = omega arith in ap (mapped ending) (ap (λ (j : ℕ). actionList n j bytes p) l ∙ actions-none n bytes p)
 
+-- What is tested, by what was read.
+module _ {A : Type 0} (tests : A → List ℕ) where
+  pub tested-got : {x : Read A} {a : A} {p : ℕ} → x ≡ got a p → tested tests x ≡ decided (tests a) p
+  unfolding tested
+  tested-got e = rw e
+
+  pub tested-fault : {x : Read A} {r : ℕ} → x ≡ fault r → refused r ≡ tested tests x
+  unfolding tested
+  tested-fault e = rw e
+
+  -- So is a value that is made of it, which fails the same tests.
+  tested-made : {B : Type 0} (more : B → List ℕ) (make : A → B) → ((a : A) → tests a ≡ more (make a)) → (x : Read A) → tested tests x ≡ tested more (mapped make x)
+  unfolding tested mapped
+  tested-made more make h (got a p) = ap (λ (xs : List ℕ). decided xs p) (h a)
+  tested-made more make h (fault r) = refl
+
 -- The first test that fails decides.
 module _ {A : Type 0} where
   passed-none : (xs : List ℕ) (a : A) {b : A} → decided xs a ≡ accepted b → (xs ≡ []) × (a ≡ b)
@@ -127,7 +143,7 @@ module _ (space : List ℕ) (n : ℕ) (bytes : List ℕ) (actions : List Action)
 
   -- The action at p is tested.
   module _ {p k i : ℕ} (less : i < k) (left : Left space n bytes actions q p (k - i)) (r : Walked)
-      (tested : (a : Action) (end : ℕ) → action n bytes p ≡ got a end → passedTo r ≡ decided (actionFaults space a) end) where
+      (e : passedTo r ≡ tested (actionFaults space) (action n bytes p)) where
     abbrev split : (a : Action) × (j : ℕ) × (rest : List Action) × (action n bytes p ≡ got a j) × (actionList n (k - (i + 1)) bytes j ≡ got rest q) × (a ∷ rest ≡ left .rest)
     split =
         let l : suc (k - (i + 1)) ≡ k - i = omega arith in
@@ -140,13 +156,13 @@ module _ (space : List ℕ) (n : ℕ) (bytes : List ℕ) (actions : List Action)
     whole = ap (λ (x : List Action). decided (flatMap (actionFaults space) x) q) (split .5) ∙ left .decide
 
     told : passedTo r ≡ decided faults (split .1)
-    told = tested (split .0) (split .1) (split .3)
+    told = e ∙ tested-got (actionFaults space) (split .3)
 
     -- It passes: those behind it are left.
     pub left-more : {next : ℕ} → r ≡ Walked.To next → Left space n bytes actions q next (k - (i + 1))
     unfolding passedTo flatMap
-    left-more {next} e =
-        let w = passed-none faults (split .1) (sym told ∙ ap passedTo e) in
+    left-more {next} h =
+        let w = passed-none faults (split .1) (sym told ∙ ap passedTo h) in
         record {
           rest = split .2;
           read = ap (actionList n (k - (i + 1)) bytes) (sym (w .1)) ∙ split .4;
@@ -156,7 +172,7 @@ module _ (space : List ℕ) (n : ℕ) (bytes : List ℕ) (actions : List Action)
     -- It fails.
     pub left-fails : {x : Refusal} → r ≡ Walked.Refused x → refused (numberOf x) ≡ decided (flatMap (actionFaults space) actions) q
     unfolding passedTo flatMap
-    left-fails e = sym (failed-first faults (flatMap (actionFaults space) (split .2)) (split .1) q (sym told ∙ ap passedTo e)) ∙ whole
+    left-fails h = sym (failed-first faults (flatMap (actionFaults space) (split .2)) (split .1) q (sym told ∙ ap passedTo h)) ∙ whole
 
   -- None is left: all passed.
   pub left-none : (p k i : ℕ) → k ≤ i → Left space n bytes actions q p (k - i) → accepted p ≡ decided (flatMap (actionFaults space) actions) q
@@ -170,25 +186,19 @@ module _ (space : List ℕ) (n : ℕ) (bytes : List ℕ) (actions : List Action)
 
 -- The tests of an action, by its kind.
 module _ (space : List ℕ) (n : ℕ) (bytes : List ℕ) (p : ℕ) where
-  pub kind-tested : (x : Refusal) → kind bytes p ≡ fault (numberOf x) → (a : Action) (end : ℕ) → action n bytes p ≡ got a end → refused (numberOf x) ≡ decided (actionFaults space a) end
-  kind-tested x e a end h =
-      let k = sym (action-refused n bytes p e) ∙ h in
-      let z : _≡_ {A = ℕ} 0 1 = cc in absurd (omega arith)
+  pub kind-tested : {r : ℕ} → kind bytes p ≡ fault r → refused r ≡ tested (actionFaults space) (action n bytes p)
+  kind-tested e = tested-fault (actionFaults space) (action-refused n bytes p e)
 
-  module _ {q : ℕ} {r : Answer ℕ} where
-    pub change-tested : kind bytes p ≡ got changes q
-        → ((f : Objective) (end : ℕ) → theory n bytes q ≡ got f end → r ≡ decided (unless (leadsOn space (truth f)) 14) end)
-        → (a : Action) (end : ℕ) → action n bytes p ≡ got a end → r ≡ decided (actionFaults space a) end
-    change-tested e h a end k =
-        let w = mapped-got change (theory n bytes q) (sym (action-change n bytes p e) ∙ k) in
-        h (w .0) end (w .1) ∙ ap (λ (xs : List ℕ). decided xs end) (sym (change-faults space (w .0))) ∙ ap (λ (x : Action). decided (actionFaults space x) end) (w .2)
+  module _ {q : ℕ} where
+    pub change-tested : kind bytes p ≡ got changes q → tested (λ f. unless (leadsOn space (truth f)) 14) (theoryOver n bytes q) ≡ tested (actionFaults space) (action n bytes p)
+    change-tested e =
+        tested-made (λ f. unless (leadsOn space (truth f)) 14) (actionFaults space) change (λ f. sym (change-faults space f)) (theoryOver n bytes q)
+        ∙ ap (tested (actionFaults space)) (sym (action-change n bytes p e))
 
-    pub probe-tested : kind bytes p ≡ got probes q
-        → ((fs : List Objective) (end : ℕ) → replies n bytes q ≡ got fs end → r ≡ decided (unless (hasReply space (probe fs)) 15) end)
-        → (a : Action) (end : ℕ) → action n bytes p ≡ got a end → r ≡ decided (actionFaults space a) end
-    probe-tested e h a end k =
-        let w = mapped-got probe (replies n bytes q) (sym (action-probe n bytes p e) ∙ k) in
-        h (w .0) end (w .1) ∙ ap (λ (xs : List ℕ). decided xs end) (sym (probe-faults space (w .0))) ∙ ap (λ (x : Action). decided (actionFaults space x) end) (w .2)
+    pub probe-tested : kind bytes p ≡ got probes q → tested (λ fs. unless (hasReply space (probe fs)) 15) (repliesOver n bytes q) ≡ tested (actionFaults space) (action n bytes p)
+    probe-tested e =
+        tested-made (λ fs. unless (hasReply space (probe fs)) 15) (actionFaults space) probe (λ fs. sym (probe-faults space fs)) (repliesOver n bytes q)
+        ∙ ap (tested (actionFaults space)) (sym (action-probe n bytes p e))
 
 -- A test that passes or fails, by what the code found.
 module _ (number end : ℕ) {b test : Bool} (is : b ≡ test) where
@@ -199,12 +209,6 @@ module _ (number end : ℕ) {b test : Bool} (is : b ≡ test) where
   pub test-fails : b ≡ false → refused number ≡ decided (unless test number) end
   unfolding decided unless
   test-fails e = ap (λ (x : Bool). decided (unless x number) end) (sym e ∙ is)
-
--- Where something is known to end, the code gets there.
-pub end-passed : (r : Walked) {end : ℕ} → endRead r ≡ got tt end → passedTo r ≡ accepted end
-unfolding endRead passedTo
-end-passed (Walked.To p) {end} e = let z : p ≡ end = cc in ap (λ (j : ℕ). accepted j) z
-end-passed (Walked.Refused x) e = let z : _≡_ {A = ℕ} 0 1 = cc in absurd (omega arith)
 
 -- Whether a number from a + 1 on passes is whether the one behind a number from a on does.
 exists-shift : (test : ℕ → Bool) (a k : ℕ) → exists test (upFrom (suc a) k) ≡ exists (λ i. test (suc i)) (upFrom a k)

@@ -15,7 +15,7 @@ use Rattle.reader.specs.declared.nodes.ActionKind.{ActionKind}
 use Rattle.reader.specs.declared.nodes.ReplyTotal.{ReplyTotal}
 use Rattle.reader.specs.declared.nodes.EpistemicNode.{EpistemicNode as EpistemicFound}
 use Rattle.reader.specs.declared.nodes.ProgramNode.{ProgramNode as ProgramFound}
-use Rattle.reader.specs.declared.sheet.Answer.{Answer as Said}
+use Rattle.reader.specs.declared.sheet.Acceptance.{Acceptance}
 
 -- "From the sheet": the number of each refusal.
 unfoldable pub numberOf : Refusal → ℕ
@@ -36,10 +36,10 @@ numberOf Refusal.NoNext = 14
 numberOf Refusal.NoReply = 15
 
 -- The reader's answer: "accepted", or the number of the refusal.
-unfoldable pub answerOf : Said → Answer (Unit {0})
+unfoldable pub answerOf : Acceptance → Answer (Unit {0})
 unfolding numberOf
-answerOf Said.Accepted = accepted tt
-answerOf (Said.Refused r) = refused (numberOf r)
+answerOf Acceptance.Accepted = accepted tt
+answerOf (Acceptance.Refused r) = refused (numberOf r)
 
 -- An answer without its value.
 unfoldable pub withoutValue : {A : Type 0} → Answer A → Answer (Unit {0})

@@ -8,7 +8,7 @@ use Rattle.states.specs.declared.States.{States}
 use Rattle.states.specs.Sets.{setOf}
 use Rattle.format.specs.Syntax.{Objective, fact, new-fact, Sheet}
 use Rattle.format.specs.Truth.{holds}
-use Rattle.format.specs.Format.{Answer, accepted, refused, Read, got, fault, ProgramRead}
+use Rattle.format.specs.Format.{Answer, accepted, refused, Read, got, fault, ProgramRead, decided}
 use Rattle.reader.specs.Answers.{numberOf, statesIn}
 use Rattle.reader.specs.declared.bits.Field.{Field}
 use Rattle.reader.specs.declared.formula.View.{View}
@@ -30,7 +30,13 @@ unfolding numberOf
 countRead (Counted.To p) = got (p .acts, p .branches) (p .at)
 countRead (Counted.Refused r) = fault (numberOf r)
 
--- What the tests on what stands at a position tell: where it ends, or a refusal.
+-- What is read, by the tests that fail for it, if it is read: the first decides, else where it ends.
+unfoldable pub tested : {A : Type 0} → (A → List ℕ) → Read A → Answer ℕ
+unfolding decided
+tested tests (got a p) = decided (tests a) p
+tested tests (fault r) = refused r
+
+-- What the code's tests tell.
 unfoldable pub passedTo : Walked → Answer ℕ
 unfolding numberOf
 passedTo (Walked.To p) = accepted p
@@ -43,9 +49,9 @@ ending a = tt
 unfoldable pub counts : ProgramRead → ℕ × ℕ
 counts c = (c .acts, c .branches)
 
-unfoldable pub startSet : Sheet → States
+unfoldable pub startStates : Sheet → States
 unfolding statesIn
-startSet sheet = statesIn View.States (sheet .start)
+startStates sheet = statesIn View.States (sheet .start)
 
 unfoldable pub someHolds : List Objective → States
 someHolds fs = setOf (λ s. exists (λ f. holds f s) fs)

@@ -18,9 +18,9 @@ ghost use lib.ListN.{length};
 ghost use Rattle.states.specs.Sets.{members};
 ghost use Rattle.format.specs.Syntax.{Objective, Action, probe};
 ghost use Rattle.format.specs.Truth.{truth};
-ghost use Rattle.format.specs.Format.{got, mapped, mostBytes, objectives, theory, replies, action, actionList, leadsOn, hasReply, unless, actionFaults, decided};
+ghost use Rattle.format.specs.Format.{got, mapped, mostBytes, objectives, theoryOver, repliesOver, action, actionList, leadsOn, hasReply, unless, actionFaults, decided};
 ghost use Rattle.reader.specs.Answers.{setRead, statesIn};
-ghost use Rattle.reader.specs.Method.{endRead, passedTo, ending, someHolds};
+ghost use Rattle.reader.specs.Method.{endRead, tested, passedTo, ending, someHolds};
 ghost use Rattle.reader.specs.declared.formula.View.{View};
 
 // m objective formulas: the states in which one of them holds, and where they end.
@@ -47,7 +47,7 @@ fn evaluate_some(bytes: &[u8], at: usize, m: usize, n: usize) -> Evaluated
 // A probe behind its kind: the states in which a reply is true, and where it ends.
 fn evaluate_replies(bytes: &[u8], at: usize, n: usize) -> Evaluated
     requires { ⌜ length (now bytes) ≤ mostBytes ⌝ }
-    ensures { λ r. ⌜ setRead r ≡ mapped someHolds (replies n (now (bytes .entry)) at) ⌝ }
+    ensures { λ r. ⌜ setRead r ≡ mapped someHolds (repliesOver n (now (bytes .entry)) at) ⌝ }
 {
     match total_at(bytes, at) {
         ReplyTotal::Refused(r) => Evaluated::Refused(r),
@@ -92,7 +92,7 @@ pub(crate) fn read_actions(bytes: &[u8], at: usize, n: usize, k: usize) -> Walke
 // The next states that the theory at a position allows from a state.
 fn states_after(bytes: &[u8], at: usize, n: usize, state: u8) -> States
     requires { ⌜ length (now bytes) ≤ mostBytes ⌝ }
-    ensures { λ r. ⌜ ((f : Objective) (end : ℕ) → theory n (now (bytes .entry)) at ≡ got f end → r ≡ statesIn (View.Next state) f) ⌝ }
+    ensures { λ r. ⌜ ((f : Objective) (end : ℕ) → theoryOver n (now (bytes .entry)) at ≡ got f end → r ≡ statesIn (View.Next state) f) ⌝ }
 {
     match evaluate(bytes, at, DEPTH, n, View::Next(state)) {
         Evaluated::Refused(r) => States::empty(),
@@ -104,7 +104,7 @@ fn states_after(bytes: &[u8], at: usize, n: usize, state: u8) -> States
 // next states of a state.
 fn leads_on(bytes: &[u8], at: usize, n: usize, space: States) -> bool
     requires { ⌜ length (now bytes) ≤ mostBytes ⌝ }
-    ensures { λ r. ⌜ ((f : Objective) (end : ℕ) → theory n (now (bytes .entry)) at ≡ got f end → r ≡ leadsOn (members space) (truth f)) ⌝ }
+    ensures { λ r. ⌜ ((f : Objective) (end : ℕ) → theoryOver n (now (bytes .entry)) at ≡ got f end → r ≡ leadsOn (members space) (truth f)) ⌝ }
 {
     'states: for old in 0..256usize {
         let state = (old % 256) as u8;
@@ -126,18 +126,23 @@ fn leads_on(bytes: &[u8], at: usize, n: usize, space: States) -> bool
 // The test behind 14 on the theory at a position: where it ends, or the refusal.
 fn test_theory(bytes: &[u8], at: usize, n: usize, space: States) -> Walked
     requires { ⌜ length (now bytes) ≤ mostBytes ⌝ }
-    ensures { λ r. ⌜ ((f : Objective) (end : ℕ) → theory n (now (bytes .entry)) at ≡ got f end → passedTo r ≡ decided (unless (leadsOn (members space) (truth f)) 14) end) ⌝ }
+    ensures { λ r. ⌜ passedTo r ≡ tested (λ f. unless (leadsOn (members space) (truth f)) 14) (theoryOver n (now (bytes .entry)) at) ⌝ }
 {
-    if leads_on(bytes, at, n, space) {
-        return read_objective(bytes, at, DEPTH, n, View::Next(0));
+    match read_objective(bytes, at, DEPTH, n, View::Next(0)) {
+        Walked::Refused(r) => Walked::Refused(r),
+        Walked::To(end) => {
+            if leads_on(bytes, at, n, space) {
+                return Walked::To(end);
+            }
+            Walked::Refused(Refusal::NoNext)
+        }
     }
-    Walked::Refused(Refusal::NoNext)
 }
 
 // The test behind 15 on the replies at a position: where they end, or the refusal.
 fn test_replies(bytes: &[u8], at: usize, n: usize, space: States) -> Walked
     requires { ⌜ length (now bytes) ≤ mostBytes ⌝ }
-    ensures { λ r. ⌜ ((fs : List Objective) (end : ℕ) → replies n (now (bytes .entry)) at ≡ got fs end → passedTo r ≡ decided (unless (hasReply (members space) (probe fs)) 15) end) ⌝ }
+    ensures { λ r. ⌜ passedTo r ≡ tested (λ fs. unless (hasReply (members space) (probe fs)) 15) (repliesOver n (now (bytes .entry)) at) ⌝ }
 {
     match evaluate_replies(bytes, at, n) {
         Evaluated::Refused(r) => Walked::Refused(r),
@@ -153,7 +158,7 @@ fn test_replies(bytes: &[u8], at: usize, n: usize, space: States) -> Walked
 // The tests of the action at a position: where it ends, or the refusal.
 fn test_action(bytes: &[u8], at: usize, n: usize, space: States) -> Walked
     requires { ⌜ length (now bytes) ≤ mostBytes ⌝ }
-    ensures { λ r. ⌜ ((a : Action) (end : ℕ) → action n (now (bytes .entry)) at ≡ got a end → passedTo r ≡ decided (actionFaults (members space) a) end) ⌝ }
+    ensures { λ r. ⌜ passedTo r ≡ tested (actionFaults (members space)) (action n (now (bytes .entry)) at) ⌝ }
 {
     match kind_at(bytes, at) {
         ActionKind::Refused(r) => Walked::Refused(r),
@@ -162,7 +167,7 @@ fn test_action(bytes: &[u8], at: usize, n: usize, space: States) -> Walked
     }
 }
 
-// The tests of the k actions at a position, by action number: where they end, or the first refusal.
+// The tests of the k actions at a position, which are read, by action number: where they end, or the first refusal.
 pub(crate) fn test_actions(bytes: &[u8], at: usize, n: usize, k: usize, space: States) -> Walked
     requires { ⌜ length (now bytes) ≤ mostBytes ⌝ }
     ensures { λ r. ⌜ ((actions : List Action) (end : ℕ) → actionList n k (now (bytes .entry)) at ≡ got actions end → passedTo r ≡ decided (flatMap (actionFaults (members space)) actions) end) ⌝ }

@@ -2,8 +2,7 @@
 use crate::refusal::Refusal;
 use states::States;
 
-// The edition, by which the fields behind the header are read, the number of facts, the number of actions, the states, and
-// the position behind the header.
+// The edition, the number of facts, the number of actions, the states, and the position behind the header.
 pub struct Header {
     pub edition: usize,
     pub facts: usize,

@@ -31,5 +31,5 @@ pub use nodes::program_node;
 pub use nodes::reply_total;
 pub use refusal::Refusal;
 pub use refusal::number;
-pub use sheet::Answer;
+pub use sheet::Acceptance;
 pub use sheet::read;

@@ -25,10 +25,10 @@ ghost use Rattle.format.specs.Syntax.{Sheet};
 ghost use Rattle.format.specs.Truth.{inSpace};
 ghost use Rattle.format.specs.Format.{got, mapped, mostBytes, mostFacts, body, isPadding, actionFaults, faults, decided, reading};
 ghost use Rattle.reader.specs.Answers.{answerOf, withoutValue, setRead, headerOf};
-ghost use Rattle.reader.specs.Method.{startSet};
+ghost use Rattle.reader.specs.Method.{startStates};
 
 // The reader's answer.
-pub enum Answer {
+pub enum Acceptance {
     Accepted,
     Refused(Refusal),
 }
@@ -51,7 +51,7 @@ fn is_padding(bytes: &[u8], at: usize) -> bool
 // The fields behind the header: the states in which the start formula holds, and where the fields end.
 fn read_body(bytes: &[u8], h: Header) -> Evaluated
     requires { ⌜ length (now bytes) ≤ mostBytes ⌝ }
-    ensures { λ r. ⌜ setRead r ≡ mapped startSet (body (headerOf h) (now (bytes .entry)) (h .at)) ⌝ }
+    ensures { λ r. ⌜ setRead r ≡ mapped startStates (body (headerOf h) (now (bytes .entry)) (h .at)) ⌝ }
 {
     let n = h.facts;
     let k = h.actions;
@@ -81,31 +81,31 @@ fn read_body(bytes: &[u8], h: Header) -> Evaluated
 }
 
 // The tests behind the fields: the padding, a start state, and the tests of the actions.
-fn test_body(bytes: &[u8], h: Header, start: States, end: usize) -> Answer
+fn test_body(bytes: &[u8], h: Header, start: States, end: usize) -> Acceptance
     requires { ⌜ (length (now bytes) ≤ mostBytes) × (h .facts ≤ mostFacts) × (h .space ≡ setOf (inSpace (h .facts))) ⌝ }
-    ensures { λ r. ⌜ ((sheet : Sheet) → body (headerOf h) (now (bytes .entry)) (h .at) ≡ got sheet end → start ≡ startSet sheet → answerOf r ≡ withoutValue (decided (faults actionFaults (now (bytes .entry)) end sheet) sheet)) ⌝ }
+    ensures { λ r. ⌜ ((sheet : Sheet) → body (headerOf h) (now (bytes .entry)) (h .at) ≡ got sheet end → start ≡ startStates sheet → answerOf r ≡ withoutValue (decided (faults actionFaults (now (bytes .entry)) end sheet) sheet)) ⌝ }
 {
     if !is_padding(bytes, end) {
-        return Answer::Refused(Refusal::Padding);
+        return Acceptance::Refused(Refusal::Padding);
     }
     let space = h.space;
     if start.intersect(space).is_empty() {
-        return Answer::Refused(Refusal::NoStart);
+        return Acceptance::Refused(Refusal::NoStart);
     }
     match test_actions(bytes, h.at, h.facts, h.actions, space) {
-        Walked::Refused(r) => Answer::Refused(r),
-        Walked::To(next) => Answer::Accepted,
+        Walked::Refused(r) => Acceptance::Refused(r),
+        Walked::To(next) => Acceptance::Accepted,
     }
 }
 
 // Whether the bytes are a sheet, or why they are refused.
-pub fn read(bytes: &[u8]) -> Answer
+pub fn read(bytes: &[u8]) -> Acceptance
     ensures { λ r. ⌜ answerOf r ≡ withoutValue (reading (now (bytes .entry))) ⌝ }
 {
     match header(bytes) {
-        ParsedHeader::Refused(r) => Answer::Refused(r),
+        ParsedHeader::Refused(r) => Acceptance::Refused(r),
         ParsedHeader::Read(h) => match read_body(bytes, h) {
-            Evaluated::Refused(r) => Answer::Refused(r),
+            Evaluated::Refused(r) => Acceptance::Refused(r),
             Evaluated::Holds(start, end) => test_body(bytes, h, start, end),
         },
     }

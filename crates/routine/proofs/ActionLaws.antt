@@ -188,13 +188,13 @@ module _ (bytes : List ℕ) (n m k : ℕ) (before : List ℕ) (q : ℕ) (fs : Li
       go (f ∷ left) d h w = absurd (omega arith)
 
 -- The tables of a probe's replies are those of its formulas.
-formulas-tables : (statesIn : ℕ → States) (fs : List Objective) (a : ℕ) → ((r : ℕ) → statesIn (a + r) ≡ tableOf (getD fs r bottom)) → map statesIn (upFrom a (length fs)) ≡ map tableOf fs
+formulas-tables : (table : ℕ → States) (fs : List Objective) (a : ℕ) → ((r : ℕ) → table (a + r) ≡ tableOf (getD fs r bottom)) → map table (upFrom a (length fs)) ≡ map tableOf fs
 unfolding upFrom
-formulas-tables statesIn [] a h = refl
-formulas-tables statesIn (f ∷ fs) a h =
+formulas-tables table [] a h = refl
+formulas-tables table (f ∷ fs) a h =
     let e : a + 0 ≡ a = omega arith in
-    ap₂ (λ (x : States) (xs : List States). x ∷ xs) (ap statesIn (sym e) ∙ h 0)
-    (formulas-tables statesIn fs (suc a) (λ r. let d : suc a + r ≡ a + suc r = omega arith in ap statesIn d ∙ h (suc r)))
+    ap₂ (λ (x : States) (xs : List States). x ∷ xs) (ap table (sym e) ∙ h 0)
+    (formulas-tables table fs (suc a) (λ r. let d : suc a + r ≡ a + suc r = omega arith in ap table d ∙ h (suc r)))
 
 module _ (space : States) where
   -- The sets of a probe are these tables.

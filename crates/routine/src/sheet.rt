@@ -8,7 +8,7 @@ use crate::limits::SET_WORDS;
 use crate::memory::Node;
 use crate::memory::put_node;
 use crate::program::fill_program;
-use reader::Answer;
+use reader::Acceptance;
 use reader::DEPTH;
 use reader::Evaluated;
 use reader::ParsedHeader;
@@ -80,7 +80,7 @@ pub fn prepare(
     ensures { λ r. ⌜ (preparedOf r ≡ startOf (reading (now (bytes .entry)))) × (now (heads .exit) ≡ preparedBy sheetHeads (reading (now (bytes .entry))) (now (heads .entry))) × (now (nodes .exit) ≡ preparedBy nodeCells (reading (now (bytes .entry))) (now (nodes .entry))) × (now (sets .exit) ≡ preparedBy setWords (reading (now (bytes .entry))) (now (sets .entry))) ⌝ }
 {
     match read(bytes) {
-        Answer::Refused(r) => Prepared::Refused(r),
-        Answer::Accepted => fill(bytes, heads, nodes, sets),
+        Acceptance::Refused(r) => Prepared::Refused(r),
+        Acceptance::Accepted => fill(bytes, heads, nodes, sets),
     }
 }

@@ -11,28 +11,28 @@ use borrow.Author.Tests.{eq-eqb, ne-eqb, le-leb, lt-leb}
 use Rattle.format.specs.Syntax.{Sheet}
 use Rattle.format.specs.Format.{Answer, accepted, refused, reading}
 use Rattle.reader.specs.declared.refusal.Refusal.{Refusal}
-use Rattle.reader.specs.declared.sheet.Answer.{Answer as Said}
+use Rattle.reader.specs.declared.sheet.Acceptance.{Acceptance}
 use Rattle.reader.specs.Answers.{numberOf, answerOf, withoutValue}
 use Rattle.reader.proofs.AnswerLaws.{was-accepted, was-refused}
 use Rattle.format.proofs.SheetLaws.{accepted-length}
 use Rattle.runner.specs.Records.{padded, areZero, zeros, loadedFor, loaded, isPadded}
 use Rattle.runner.specs.declared.kept.Record.{Record}
 
-module _ (s : List ℕ) (i : ℕ) where
+module _ (bytes : List ℕ) (i : ℕ) where
   -- Behind the end there are only zeros.
-  pub zero-end : length s ≤ i → areZero (drop i s) ≡ true
+  pub zero-end : length bytes ≤ i → areZero (drop i bytes) ≡ true
   unfolding areZero
-  zero-end h = rw (drop-of-length-le s h)
+  zero-end h = rw (drop-of-length-le bytes h)
 
   -- From a byte that isn't 0 on, not every byte is 0.
-  pub zero-no : i < length s → (getD s i 0 ≡ 0 → ⊥) → areZero (drop i s) ≡ false
+  pub zero-no : i < length bytes → (getD bytes i 0 ≡ 0 → ⊥) → areZero (drop i bytes) ≡ false
   unfolding areZero
-  zero-no h n = rw (drop-cons s i 0 h, ne-eqb _ _ n)
+  zero-no h n = rw (drop-cons bytes i 0 h, ne-eqb _ _ n)
 
   -- From a byte 0 on, every byte is 0 if every byte behind it is.
-  pub zero-yes : i < length s → getD s i 0 ≡ 0 → areZero (drop i s) ≡ areZero (drop (i + 1) s)
+  pub zero-yes : i < length bytes → getD bytes i 0 ≡ 0 → areZero (drop i bytes) ≡ areZero (drop (i + 1) bytes)
   unfolding areZero
-  zero-yes h n = rw (add-one, drop-cons s i 0 h, eq-eqb _ _ n)
+  zero-yes h n = rw (add-one, drop-cons bytes i 0 h, eq-eqb _ _ n)
 
 -- The first of some zeros.
 zeros-less : (n i : ℕ) → i < n → replicate {A = ℕ} (n - i) 0 ≡ 0 ∷ replicate {A = ℕ} (n - (i + 1)) 0
@@ -41,17 +41,17 @@ zeros-less n i h =
     rw e
 
 -- One more byte is copied over the zeros.
-pub pad-more : (n : ℕ) (s : List ℕ) (i : ℕ) → i < length s → length s ≤ n
-    → set (take i s ++ replicate {A = ℕ} (n - i) 0) i (getD s i 0) ≡ take (i + 1) s ++ replicate {A = ℕ} (n - (i + 1)) 0
-pad-more n s i h k =
-    let l : i ≤ length s = omega arith in
+pub pad-more : (n : ℕ) (bytes : List ℕ) (i : ℕ) → i < length bytes → length bytes ≤ n
+    → set (take i bytes ++ replicate {A = ℕ} (n - i) 0) i (getD bytes i 0) ≡ take (i + 1) bytes ++ replicate {A = ℕ} (n - (i + 1)) 0
+pad-more n bytes i h k =
+    let l : i ≤ length bytes = omega arith in
     let m : i < n = omega arith in
-    rw (zeros-less n i m, set-at (take i s) 0 (replicate {A = ℕ} (n - (i + 1)) 0) (getD s i 0) i (length-take-le i s l), add-one, take-suc s i 0 h, append-assoc)
+    rw (zeros-less n i m, set-at (take i bytes) 0 (replicate {A = ℕ} (n - (i + 1)) 0) (getD bytes i 0) i (length-take-le i bytes l), add-one, take-suc bytes i 0 h, append-assoc)
 
 -- Every byte is copied.
-pub pad-end : (n : ℕ) (s : List ℕ) (i : ℕ) → i ≡ length s → take i s ++ replicate {A = ℕ} (n - i) 0 ≡ padded n s
+pub pad-end : (n : ℕ) (bytes : List ℕ) (i : ℕ) → i ≡ length bytes → take i bytes ++ replicate {A = ℕ} (n - i) 0 ≡ padded n bytes
 unfolding padded
-pad-end n s i e = rw (e, take-length s)
+pad-end n bytes i e = rw (e, take-length bytes)
 
 -- The part of an array of n bytes from k on.
 pub part-rest : (n k : ℕ) (l : List ℕ) → length l ≡ n → take (n - k) (drop k l) ≡ drop k l
@@ -99,17 +99,17 @@ module _ (bytes : List ℕ) where
   loaded-for x e = ap (λ (y : Answer Sheet). loadedFor bytes y) e
 
   -- Accepted bytes fit into the record.
-  pub accepted-fits : answerOf Said.Accepted ≡ withoutValue (reading bytes) → length bytes ≤ 1024
+  pub accepted-fits : answerOf Acceptance.Accepted ≡ withoutValue (reading bytes) → length bytes ≤ 1024
   unfolding answerOf
   accepted-fits e = let a = was-accepted (reading bytes) e in accepted-length bytes (a .0) (a .1)
 
   -- Of accepted bytes the record is they and zeros behind them, with no replies.
-  pub loaded-accepted : answerOf Said.Accepted ≡ withoutValue (reading bytes)
+  pub loaded-accepted : answerOf Acceptance.Accepted ≡ withoutValue (reading bytes)
       → loaded bytes ≡ record { sheet = padded 1024 bytes; len = length bytes; replies = replicate 64 0; count = 0 }
   unfolding answerOf
   loaded-accepted e = let a = was-accepted (reading bytes) e in loaded-for (accepted (a .0)) (a .1) ∙ for-accepted bytes (a .0)
 
   -- Of refused bytes the record is that of zeros.
-  pub loaded-refused : (r : Refusal) → answerOf (Said.Refused r) ≡ withoutValue (reading bytes) → loaded bytes ≡ zeros
+  pub loaded-refused : (r : Refusal) → answerOf (Acceptance.Refused r) ≡ withoutValue (reading bytes) → loaded bytes ≡ zeros
   unfolding answerOf
   loaded-refused r e = loaded-for (refused (numberOf r)) (was-refused (reading bytes) (numberOf r) e) ∙ for-refused bytes (numberOf r)

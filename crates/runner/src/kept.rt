@@ -4,7 +4,7 @@ use crate::answer::Reported;
 use crate::answer::Told;
 use crate::walk::add;
 use crate::walk::tell;
-use reader::Answer;
+use reader::Acceptance;
 ghost use mathlib.Core.Path.{_≡_};
 ghost use Prim.Native.Nat.{_≤_};
 ghost use lib.ListN.{length};
@@ -23,7 +23,7 @@ pub struct Record {
 
 // An answer, and the record to keep.
 pub struct AfterLoad {
-    pub answer: Answer,
+    pub answer: Acceptance,
     pub kept: Record,
 }
 
@@ -89,14 +89,14 @@ impl Record {
     {
         let answer = reader::read(bytes);
         match answer {
-            Answer::Refused(r) => AfterLoad {
-                answer: Answer::Refused(r),
+            Acceptance::Refused(r) => AfterLoad {
+                answer: Acceptance::Refused(r),
                 kept: Record::zero(),
             },
-            Answer::Accepted => {
+            Acceptance::Accepted => {
                 let sheet = copied(bytes);
                 AfterLoad {
-                    answer: Answer::Accepted,
+                    answer: Acceptance::Accepted,
                     kept: Record {
                         sheet: sheet,
                         len: bytes.len(),

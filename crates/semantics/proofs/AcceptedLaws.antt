@@ -7,13 +7,13 @@ use mathlib.Core.Bool.{Bool, true, false}
 use native.Mathlib.Omega.{arith}
 use lib.ListN.{length, length-map}
 use Rattle.lists.specs.Lists.{exists}
-use Rattle.lists.proofs.ListLaws.{not-both, exists-mem, mem-exists}
+use Rattle.lists.proofs.ListLaws.{not-both, mem-exists}
 use Rattle.format.specs.Syntax.{Program, end, act, branch, replyCount, Sheet, actionOf}
-use Rattle.format.specs.Truth.{isState, states, holds}
-use Rattle.format.specs.Format.{accepted, reading, hasStart}
+use Rattle.format.specs.Truth.{isState, states}
+use Rattle.format.specs.Format.{accepted, reading}
 use Rattle.format.proofs.StateLaws.{listed-state, state-listed, state-byte}
 use Rattle.format.proofs.FormatLaws.{NumbersBelow}
-use Rattle.format.proofs.SheetLaws.{accepted-shape, accepted-passed, action-steps, action-mem, few-replies}
+use Rattle.format.proofs.SheetLaws.{accepted-shape, accepted-passed, start-state, action-steps, action-mem, few-replies}
 use Rattle.semantics.specs.Runs.{Entry, entry, History, extended, replies, step, Steps, IsRun, lastFrom, lastState, runs, holdsAfter, occurs}
 use Rattle.semantics.specs.Routine.{Policy, done, perform, policy, routine, Follows, isFull, Following, Full}
 use Rattle.semantics.specs.Verdict.{traceFrom, trace}
@@ -98,9 +98,9 @@ module _ (sheet : Sheet) where
 module _ (bytes : List ℕ) (sheet : Sheet) (read : reading bytes ≡ accepted sheet) where
   -- A run starts: some run has the empty history.
   pub starts : occurs sheet [] ≡ true
-  unfolding hasStart IsRun Steps
+  unfolding IsRun Steps
   starts =
-      let x = exists-mem (holds (sheet .start)) (states sheet) (accepted-passed bytes sheet read .start) in
+      let x = start-state (states sheet) (sheet .start) (accepted-passed bytes sheet read .start) in
       run-occurs sheet [] (x .0 ∷ []) (listed-state sheet (x .1), x .2, tt)
 
   -- Every action of the routine is one of the sheet's.

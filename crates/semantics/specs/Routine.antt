@@ -28,7 +28,7 @@ unfoldable pub routine : Sheet → Policy
 unfolding policy
 routine sheet = policy sheet (sheet .program) (λ h. done) []
 
--- "A run follows the routine if each action is the program's next." It depends on the run's history alone.
+-- "A run follows the routine if each action is the program's next". It depends on the run's history alone.
 unfoldable pub Follows : Policy → History → Type 0
 Follows done [] = Unit {0}
 Follows done (e ∷ h) = ⊥

@@ -33,7 +33,7 @@ unfoldable pub step : Sheet → Entry → (s t : ℕ) → Bool
 unfolding actionOf allowed
 step sheet e s t = allowed (actionOf sheet (e .action)) s (e .reply) t
 
--- "A run is a start state, then a state after each action." A run is the list of its states; `Steps` is what follows state s.
+-- "A run is a start state, then a state after each action". A run is the list of its states; `Steps` is what follows state s.
 unfoldable pub Steps : Sheet → (s : ℕ) → History → (rest : List ℕ) → Type 0
 Steps sheet s [] [] = Unit {0}
 Steps sheet s [] (t ∷ rest) = ⊥

@@ -43,7 +43,7 @@ unfoldable pub historyCount : Sheet → ℕ
 unfolding counted
 historyCount sheet = length (counted sheet)
 
--- "The trace: start state; then for each action one byte (action times 8 plus reply) and one byte of state."
+-- "The trace: start state; then for each action one byte (action times 8 plus reply) and one byte of state".
 unfoldable pub traceFrom : History → (rest : List ℕ) → List ℕ
 traceFrom [] rest = []
 traceFrom (e ∷ h) [] = []
@@ -85,7 +85,7 @@ unfolding trace leastRun
 concluded sheet c [] = record { verdict = valid c; shown = [] }
 concluded sheet c (h ∷ later) = record { verdict = invalid c (length h); shown = trace h (leastRun sheet h) }
 
--- "It answers "stopped" with the budget if and only if that count exceeds the budget."
+-- "It answers "stopped" with the budget if and only if that count exceeds the budget".
 unfoldable pub outcome : Sheet → (budget : ℕ) → Outcome
 unfolding historyCount failures concluded if_then_else_
 outcome sheet budget =

@@ -29,7 +29,8 @@ use Rattle.verifier.specs.declared.search.Searched.{Searched}
 use Rattle.verifier.specs.declared.verdict.Verdict.{Verdict}
 use Rattle.verifier.specs.Search.{Found, passed, failed, over, searched, pathByte, pathBytes, searchedOf, SearchedBy}
 use Rattle.verifier.specs.Least.{pathFrom, leastStates}
-use Rattle.verifier.specs.Answers.{answerOf, verdictFor, shownEntry, memoryFor}
+use Rattle.verifier.specs.Answers.{answerOf}
+use Rattle.verifier.specs.Concluding.{verdictFor, shownEntry, memoryFor}
 use Rattle.verifier.proofs.SearchLaws.{conclusion, search-found}
 use Rattle.verifier.proofs.LeastLaws.{least-is}
 

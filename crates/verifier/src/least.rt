@@ -58,7 +58,7 @@ fn preimage(
 
 // Feasible set k.
 fn feasible_at(feasible: &[u64; FEASIBLE_WORDS], k: usize) -> States
-    requires { ⌜ k < 65 ⌝ }
+    requires { ⌜ k < mostActs + 1 ⌝ }
     ensures { λ r. ⌜ r ≡ setAt (now (feasible .entry)) k ⌝ }
 {
     States {
@@ -71,7 +71,7 @@ fn feasible_at(feasible: &[u64; FEASIBLE_WORDS], k: usize) -> States
 
 // Writes feasible set k.
 fn put_feasible(feasible: &mut [u64; FEASIBLE_WORDS], k: usize, set: States)
-    requires { ⌜ k < 65 ⌝ }
+    requires { ⌜ k < mostActs + 1 ⌝ }
     ensures { λ r. ⌜ now (feasible .exit) ≡ write (now (feasible .entry)) (4 * k) (words set) ⌝ }
 {
     feasible[4 * k] = set.w0;

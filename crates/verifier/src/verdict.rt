@@ -18,7 +18,8 @@ ghost use lib.ListN.{length};
 ghost use Rattle.format.specs.Format.{mostActs};
 ghost use Rattle.semantics.specs.Verdict.{longestTrace, verified};
 ghost use Rattle.verifier.specs.Search.{searched};
-ghost use Rattle.verifier.specs.Answers.{answerOf, verdictFor, memoryFor};
+ghost use Rattle.verifier.specs.Answers.{answerOf};
+ghost use Rattle.verifier.specs.Concluding.{verdictFor, memoryFor};
 
 // Valid with the count, invalid with the count and the history's length, stopped with the budget; or the trace memory is
 // too short, or the sheet is refused.

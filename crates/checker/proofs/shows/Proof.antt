@@ -35,26 +35,26 @@ abbrev calls : lts.Claims
 calls = (has-reads.Asked, has-reads.Learnt, one-reads.Asked, one-reads.Learnt, settle-reads.Asked, settle-reads.Learnt, step-reads.Asked, step-reads.Learnt)
 
 -- At the loop's head: the arguments, what the bytes that are left show, and that this is what the trace shows.
-abbrev Head : Type 0
-Head = lts.At-loop calls reads.Pre reads.Post Inv-loop μ-loop
+abbrev AtLoop : Type 0
+AtLoop = lts.At-loop calls reads.Pre reads.Post Inv-loop μ-loop
 
-abbrev start : Head → lts.Start calls reads.Pre reads.Post Inv-loop μ-loop
+abbrev start : AtLoop → lts.Start calls reads.Pre reads.Post Inv-loop μ-loop
 start c = c .before .before .before .before .before .before .before .before
 
-abbrev trace : Head → List ℕ
+abbrev trace : AtLoop → List ℕ
 trace c = now (start c .args .trace)
 
-abbrev left : Head → Bool
+abbrev left : AtLoop → Bool
 left c =
     showsFrom (now (start c .args .heads)) (now (start c .args .nodes)) (now (start c .args .sets)) (c .loop .set) (c .loop .at) (c .loop .own) (drop (c .loop .k) (trace c))
 
-abbrev whole : Head → Bool
+abbrev whole : AtLoop → Bool
 whole c = showsBy (now (start c .args .heads)) (now (start c .args .nodes)) (now (start c .args .sets)) (start c .args .start) (trace c)
 
-short : (c : Head) → length (trace c) ≤ 129
+short : (c : AtLoop) → length (trace c) ≤ 129
 short c = omega (arith, c .before .before .before .before .before .if2 .left)
 
-what-is-left : (c : Head) → isTraceLength (length (trace c)) && whole c ≡ left c
+what-is-left : (c : AtLoop) → isTraceLength (length (trace c)) && whole c ≡ left c
 what-is-left c =
     let a = start c .args in
     ap (λ (b : Bool). b && whole c) (trace-length (length (trace c)) (c .before .before .before .before .before .before .if1 .left) (short c))
@@ -69,7 +69,7 @@ room c = omega (arith, c .loop-test .taken, c .before .loop .inv .0, c .before .
 abbrev Acting : Type 0
 Acting = lts.After-node calls reads.Pre reads.Post Inv-loop μ-loop
 
-abbrev head : Acting → Head
+abbrev head : Acting → AtLoop
 head c = c .before .before .before .before .before
 
 abbrev node : Acting → ℕ

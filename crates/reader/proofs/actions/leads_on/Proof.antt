@@ -7,7 +7,7 @@ use borrow.Author.Needs.{needs}
 use borrow.Author.Tests.{not-true, not-false}
 use Rattle.states.specs.Sets.{member}
 use Rattle.format.specs.Syntax.{Objective}
-use Rattle.format.specs.Format.{got, theory}
+use Rattle.format.specs.Format.{got, theoryOver}
 use Rattle.reader.proofs.TestLaws.{Tried, tried-first, tried-outside, tried-found, tried-stuck, tried-all, none-more}
 use Rattle.reader.specs.Answers.{statesIn}
 use Rattle.reader.specs.declared.formula.View.{View}
@@ -21,7 +21,7 @@ abbrev μ-loop : tie.MeasureT-loop
 μ-loop bytes at n space old₀ state row new₀ old new = 256 - new
 
 abbrev Inv-states : tie.InvT-states
-Inv-states bytes at n space old₀ old = (old ≤ 256) × ((f : Objective) (end : ℕ) → theory n bytes at ≡ got f end → Tried f space old)
+Inv-states bytes at n space old₀ old = (old ≤ 256) × ((f : Objective) (end : ℕ) → theoryOver n bytes at ≡ got f end → Tried f space old)
 
 abbrev μ-states : tie.MeasureT-states
 μ-states bytes at n space old₀ old = 256 - old

@@ -2,7 +2,7 @@
 use mathlib.Core.Path.{sym, ap, _∙_}
 use denote.Ref.{now}
 use Rattle.format.specs.Syntax.{change, probe}
-use Rattle.format.specs.Format.{mapped, theory, replies}
+use Rattle.format.specs.Format.{mapped, theoryOver, repliesOver}
 use Rattle.format.proofs.ReaderLaws.{also-refused, action-refused, action-change, action-probe}
 use Rattle.reader.specs.Answers.{kindRead, setRead, inTheory}
 use Rattle.reader.specs.Method.{endRead, ending, someHolds}
@@ -46,7 +46,7 @@ unfolding kindRead inTheory
 returns-2 c =
     let a = c .before .before .before .before .before .before .args in
     let e = sym (c .before .before .before .before .kind-at .ensures) ∙ ap kindRead (c .before .before .next .given .1) in
-    c .read-objective .ensures ∙ sym (ap (mapped ending) (action-change (a .n) (now (a .bytes)) (a .at) e) ∙ ends-mapped change (theory (a .n) (now (a .bytes)) _))
+    c .read-objective .ensures ∙ sym (ap (mapped ending) (action-change (a .n) (now (a .bytes)) (a .at) e) ∙ ends-mapped change (theoryOver (a .n) (now (a .bytes)) _))
 
 returns-3 : tie.Need-returns-3
 unfolding endRead kindRead setRead
@@ -54,7 +54,7 @@ returns-3 c =
     let a = c .before .before .before .before .before .before .before .before .before .args in
     let e = sym (c .before .before .before .before .before .before .before .kind-at .ensures) ∙ ap kindRead (c .before .before .before .before .before .next2 .given .1) in
     let none = sym (c .before .before .before .evaluate-replies .ensures) ∙ ap setRead (c .before .r2 .given .1) in
-    sym (ap (mapped ending) (action-probe (a .n) (now (a .bytes)) (a .at) e) ∙ ends-mapped probe (replies (a .n) (now (a .bytes)) _) ∙ also-refused someHolds ending (replies (a .n) (now (a .bytes)) _) none)
+    sym (ap (mapped ending) (action-probe (a .n) (now (a .bytes)) (a .at) e) ∙ ends-mapped probe (repliesOver (a .n) (now (a .bytes)) _) ∙ also-refused someHolds ending (repliesOver (a .n) (now (a .bytes)) _) none)
 
 returns-4 : tie.Need-returns-4
 unfolding endRead kindRead setRead
@@ -62,7 +62,7 @@ returns-4 c =
     let a = c .before .before .before .before .before .before .before .before .before .args in
     let e = sym (c .before .before .before .before .before .before .before .kind-at .ensures) ∙ ap kindRead (c .before .before .before .before .before .next2 .given .1) in
     let some = sym (c .before .before .before .evaluate-replies .ensures) ∙ ap setRead (c .before .set .given .1) in
-    sym (ap (mapped ending) (action-probe (a .n) (now (a .bytes)) (a .at) e) ∙ ends-mapped probe (replies (a .n) (now (a .bytes)) _) ∙ also-ends someHolds (replies (a .n) (now (a .bytes)) _) some)
+    sym (ap (mapped ending) (action-probe (a .n) (now (a .bytes)) (a .at) e) ∙ ends-mapped probe (repliesOver (a .n) (now (a .bytes)) _) ∙ also-ends someHolds (repliesOver (a .n) (now (a .bytes)) _) some)
 
 pub read-action-spec : {M : Type 1} → statement M
 read-action-spec =

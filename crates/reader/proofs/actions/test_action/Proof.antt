@@ -31,19 +31,19 @@ returns : tie.Need-returns
 unfolding passedTo kindRead
 returns c =
     let a = c .before .before .before .before .before .args in
-    kind-tested (members (a .space)) (a .n) (now (a .bytes)) (a .at) (c .before .r .given .0 .0) (sym (c .before .before .before .kind-at .ensures) ∙ ap kindRead (c .before .r .given .1))
+    kind-tested (members (a .space)) (a .n) (now (a .bytes)) (a .at) (sym (c .before .before .before .kind-at .ensures) ∙ ap kindRead (c .before .r .given .1))
 
 returns-2 : tie.Need-returns-2
 unfolding kindRead
 returns-2 c =
     let a = c .before .before .before .before .before .before .args in
-    change-tested (members (a .space)) (a .n) (now (a .bytes)) (a .at) (sym (c .before .before .before .before .kind-at .ensures) ∙ ap kindRead (c .before .before .next .given .1)) (c .test-theory .ensures)
+    c .test-theory .ensures ∙ change-tested (members (a .space)) (a .n) (now (a .bytes)) (a .at) (sym (c .before .before .before .before .kind-at .ensures) ∙ ap kindRead (c .before .before .next .given .1))
 
 returns-3 : tie.Need-returns-3
 unfolding kindRead
 returns-3 c =
     let a = c .before .before .before .before .before .before .args in
-    probe-tested (members (a .space)) (a .n) (now (a .bytes)) (a .at) (sym (c .before .before .before .before .kind-at .ensures) ∙ ap kindRead (c .before .before .next2 .given .1)) (c .test-replies .ensures)
+    c .test-replies .ensures ∙ probe-tested (members (a .space)) (a .n) (now (a .bytes)) (a .at) (sym (c .before .before .before .before .kind-at .ensures) ∙ ap kindRead (c .before .before .next2 .given .1))
 
 pub test-action-spec : {M : Type 1} → statement M
 test-action-spec =

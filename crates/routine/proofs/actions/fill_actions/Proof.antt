@@ -11,12 +11,12 @@ use Rattle.routine.proofs.actions.fill_actions.Statement.{statement}
 use Rattle.routine.proofs.actions.fill_actions.Tie as tie
 
 abbrev Inv-loop : tie.InvT-loop
-Inv-loop s at n space count heads₀ sets₀ p₀ k₀ a₀ heads sets p k a =
+Inv-loop bytes at n space count heads₀ sets₀ p₀ k₀ a₀ heads sets p k a =
     (a ≤ count)
-    × ((actions : List Action) (q : ℕ) → ActionsAt s n actions at q → length actions ≡ count → ActionsLeft s n space count heads₀ heads sets₀ sets p q k a actions)
+    × ((actions : List Action) (q : ℕ) → ActionsAt bytes n actions at q → length actions ≡ count → ActionsLeft bytes n space count heads₀ heads sets₀ sets p q k a actions)
 
 abbrev μ-loop : tie.MeasureT-loop
-μ-loop s at n space count heads₀ sets₀ p₀ k₀ a₀ heads sets p k a = count - a
+μ-loop bytes at n space count heads₀ sets₀ p₀ k₀ a₀ heads sets p k a = count - a
 
 loop-holds : tie.Need-loop-holds Inv-loop μ-loop
 loop-holds c = (omega arith, λ actions q h l. actions-first _ _ _ _ _ _ q actions h l)

@@ -14,11 +14,11 @@ use Rattle.routine.proofs.actions.fill_replies.Statement.{statement}
 use Rattle.routine.proofs.actions.fill_replies.Tie as tie
 
 abbrev Inv-loop : tie.InvT-loop
-Inv-loop s at n m k sets₀ p₀ i₀ sets p i =
-    (i ≤ m) × ((fs : List Objective) (q : ℕ) → RepliesAt s n fs at q → length fs ≡ m → RepliesLeft s n m k sets₀ sets p q i fs)
+Inv-loop bytes at n m k sets₀ p₀ i₀ sets p i =
+    (i ≤ m) × ((fs : List Objective) (q : ℕ) → RepliesAt bytes n fs at q → length fs ≡ m → RepliesLeft bytes n m k sets₀ sets p q i fs)
 
 abbrev μ-loop : tie.MeasureT-loop
-μ-loop s at n m k sets₀ p₀ i₀ sets p i = m - i
+μ-loop bytes at n m k sets₀ p₀ i₀ sets p i = m - i
 
 loop-holds : tie.Need-loop-holds Inv-loop μ-loop
 loop-holds c = (omega arith, λ fs q h l. replies-first _ _ _ _ _ _ fs _ h l)

@@ -14,13 +14,13 @@ use Rattle.routine.proofs.actions.fill_rows.Statement.{statement}
 use Rattle.routine.proofs.actions.fill_rows.Tie as tie
 
 abbrev Inv-loop : tie.InvT-loop
-Inv-loop s at n space k sets₀ old₀ sets old =
+Inv-loop bytes at n space k sets₀ old₀ sets old =
     (old ≤ 256)
-    × ((f : Objective) (q : ℕ) → ObjectiveAt s n true f at q
+    × ((f : Objective) (q : ℕ) → ObjectiveAt bytes n true f at q
     → write sets (4 * (k + old)) (flatMap words (rowsFrom space f old)) ≡ write sets₀ (4 * k) (flatMap words (rows (member space) (change f))))
 
 abbrev μ-loop : tie.MeasureT-loop
-μ-loop s at n space k sets₀ old₀ sets old = 256 - old
+μ-loop bytes at n space k sets₀ old₀ sets old = 256 - old
 
 loop-holds : tie.Need-loop-holds Inv-loop μ-loop
 loop-holds c = (omega arith, λ f q h. rows-first _ f _ _)

@@ -10,10 +10,10 @@ use Rattle.runner.proofs.kept.all_zero.Statement.{statement}
 use Rattle.runner.proofs.kept.all_zero.Tie as tie
 
 abbrev Inv-loop : tie.InvT-loop
-Inv-loop s i₀ i = (i ≤ length s) × (areZero s ≡ areZero (drop i s))
+Inv-loop bytes i₀ i = (i ≤ length bytes) × (areZero bytes ≡ areZero (drop i bytes))
 
 abbrev μ-loop : tie.MeasureT-loop
-μ-loop s i₀ i = length s - i
+μ-loop bytes i₀ i = length bytes - i
 
 loop-holds : tie.Need-loop-holds Inv-loop μ-loop
 loop-holds c = (omega arith, refl)

@@ -10,10 +10,10 @@ use Rattle.runner.proofs.kept.copied.Statement.{statement}
 use Rattle.runner.proofs.kept.copied.Tie as tie
 
 abbrev Inv-loop : tie.InvT-loop
-Inv-loop s to₀ i₀ to i = (i ≤ length s) × (to ≡ take i s ++ replicate (1024 - i) 0)
+Inv-loop bytes to₀ i₀ to i = (i ≤ length bytes) × (to ≡ take i bytes ++ replicate (1024 - i) 0)
 
 abbrev μ-loop : tie.MeasureT-loop
-μ-loop s to₀ i₀ to i = length s - i
+μ-loop bytes to₀ i₀ to i = length bytes - i
 
 loop-holds : tie.Need-loop-holds Inv-loop μ-loop
 loop-holds c = (omega arith, refl)

@@ -30,16 +30,16 @@ abbrev calls : lts.Claims
 calls = (settle-reads.Asked, settle-reads.Learnt, step-reads.Asked, step-reads.Learnt, is-empty-reads.Asked, is-empty-reads.Learnt)
 
 -- At the loop's head: the arguments, and where the replies that are left lead.
-abbrev Head : Type 0
-Head = lts.At-loop calls reads.Pre reads.Post Inv-loop μ-loop
+abbrev AtLoop : Type 0
+AtLoop = lts.At-loop calls reads.Pre reads.Post Inv-loop μ-loop
 
-abbrev start : Head → lts.Start calls reads.Pre reads.Post Inv-loop μ-loop
+abbrev start : AtLoop → lts.Start calls reads.Pre reads.Post Inv-loop μ-loop
 start c = c .before .before
 
-abbrev replies : Head → List ℕ
+abbrev replies : AtLoop → List ℕ
 replies c = now (start c .args .replies)
 
-what-is-left : (c : Head) → standsFrom (now (start c .args .heads)) (now (start c .args .nodes)) (now (start c .args .sets)) (start c .args .start) 0 (replies c)
+what-is-left : (c : AtLoop) → standsFrom (now (start c .args .heads)) (now (start c .args .nodes)) (now (start c .args .sets)) (start c .args .start) 0 (replies c)
     ≡ standsFrom (now (start c .args .heads)) (now (start c .args .nodes)) (now (start c .args .sets)) (c .loop .set) (c .loop .at) (drop (c .loop .k) (replies c))
 what-is-left c = c .loop .inv .1
 
@@ -47,7 +47,7 @@ what-is-left c = c .loop .inv .1
 abbrev Acting : Type 0
 Acting = lts.After-node calls reads.Pre reads.Post Inv-loop μ-loop
 
-abbrev head : Acting → Head
+abbrev head : Acting → AtLoop
 head c = c .before .before .before .before .before
 
 abbrev node : Acting → ℕ

@@ -3,7 +3,7 @@ use mathlib.Core.Path.{_≡_, sym, ap, _∙_}
 use lib.ListN.{length, replicate}
 use denote.Ref.{now}
 use borrow.Author.Needs.{needs}
-use Rattle.reader.specs.declared.sheet.Answer.{Answer}
+use Rattle.reader.specs.declared.sheet.Acceptance.{Acceptance}
 use Rattle.format.specs.Format.{reading}
 use Rattle.reader.specs.Answers.{answerOf, withoutValue}
 use Rattle.runner.proofs.RecordLaws.{accepted-fits, loaded-accepted, loaded-refused}
@@ -23,7 +23,7 @@ enum-told : tie.Need-enum-told
 enum-told c = search needs
 
 -- What the reader said, where it accepts the bytes.
-accepts : (c : tie.After-enum-told) → answerOf Answer.Accepted ≡ withoutValue (reading (now (c .before .before .before .before .args .bytes)))
+accepts : (c : tie.After-enum-told) → answerOf Acceptance.Accepted ≡ withoutValue (reading (now (c .before .before .before .before .args .bytes)))
 accepts c = sym (ap answerOf (c .enum-told .given .1)) ∙ c .before .before .read .ensures
 
 copied-requires : tie.Need-copied-requires
