@@ -8,7 +8,7 @@ use lib.ListN.{replicate}
 use lib.Dec.{eqb}
 use Rattle.format.specs.Syntax.{top, fact, negation, known, any-of, end, act, probe, Sheet}
 use Rattle.format.specs.Truth.{moves}
-use Rattle.format.specs.Format.{Answer, accepted, refused, leadsOn, unless, readingBy, reading}
+use Rattle.format.specs.Format.{Answer, accepted, refused, leadsOn, unless, actionFaults, readingBy, reading}
 
 -- A row: the bytes, and the number of their refusal.
 pub record Row : Type 0 where
@@ -98,10 +98,10 @@ ofEdition0 = readingBy (λ edition. eqb edition 0) (λ space a. unless (leadsOn 
 
 pub other-holds : ofEdition0 (0x01 ∷ 0x0C ∷ 0x50 ∷ 0x21 ∷ 0x00 ∷ [])
     ≡ accepted (record { facts = 1; actions = probe (fact 0 ∷ []) ∷ []; start = top; goal = known top; program = end })
-unfolding readingBy leadsOn moves unless
+unfolding readingBy actionFaults leadsOn moves unless
 other-holds = refl
 
 -- A theory that is false is refused there too, and edition 1 isn't taken.
 pub other-refuses : (ofEdition0 (0x01 ∷ 0x08 ∷ 0x10 ∷ 0x80 ∷ []) ≡ refused 14) × (ofEdition0 (0x11 ∷ 0x0C ∷ 0x50 ∷ 0x21 ∷ 0x00 ∷ []) ≡ refused 3)
-unfolding readingBy leadsOn moves unless
+unfolding readingBy actionFaults leadsOn moves unless
 other-refuses = (refl, refl)
