@@ -16,7 +16,7 @@ use Rattle.format.specs.Syntax.{Objective, fact, new-fact, negation, conjunctio
 use Rattle.format.specs.Truth.{truth}
 use Rattle.format.specs.Format.{Read, got, fault, Reader, _>>=_, mapped, give, refuse, check, mostBytes, deepest, factNumber, objectiveBehind, objective, ofSheet}
 use Rattle.reader.specs.Answers.{inTheory, statesIn}
-use Rattle.reader.specs.Method.{factOf, joined}
+use Rattle.reader.specs.Method.{factOf}
 use Rattle.format.proofs.FormatLaws.{behind-got, behind-fault}
 use Rattle.format.specs.Standing.{ObjectiveAt}
 use Rattle.format.proofs.ReaderLaws.{mapped-got, mapped-fault, mapped-same, mapped-give, sheet-short}
@@ -97,19 +97,28 @@ module _ (from to : ℕ → ℕ) where
         (true-two make op (first .0) (second .0) (same (first .0) (second .0))
         ∙ ap₂ (λ (x y : States). setOf (λ t. op (member x t) (member y t))) (first .2) (second .2))
 
-    -- A conjunction, disjunction or equivalence, from its parts' sets.
-    pub set-two : (tag : ℕ) → 4 < tag → {a b : States} {p e : ℕ} → mapped trueAt (part bytes q) ≡ got a p → mapped trueAt (part bytes p) ≡ got b e
-        → behind tag ≡ got (setOf (λ t. joined tag (member a t) (member b t))) e
-    unfolding objectiveBehind if_then_else_ truth joined
-    set-two tag l {a} {b} {p} {e} h k =
-        rw (ne-eqb tag 0 (λ z. omega arith), ne-eqb tag 1 (λ z. omega arith), ne-eqb tag 2 (λ z. omega arith), ne-eqb tag 3 (λ z. omega arith), ne-eqb tag 4 (λ z. omega arith))
-        (go (eqb tag 5) (eqb tag 6))
-      where
-        go : (b5 b6 : Bool) → mapped trueAt ((if b5 then two conjunction else if b6 then two disjunction else two equivalence) bytes q)
-            ≡ got (setOf (λ t. if b5 then member a t && member b t else if b6 then member a t || member b t else Bool·beq (member a t) (member b t))) e
-        go true b6 = two-set conjunction _&&_ (λ f g x y. refl) h k
-        go false true = two-set disjunction _||_ (λ f g x y. refl) h k
-        go false false = two-set equivalence Bool·beq (λ f g x y. refl) h k
+    -- A conjunction, a disjunction and an equivalence, from their parts' sets.
+    module _ {a b : States} {p e : ℕ} (h : mapped trueAt (part bytes q) ≡ got a p) (k : mapped trueAt (part bytes p) ≡ got b e) where
+      pub set-and : (tag : ℕ) → tag ≡ 5 → behind tag ≡ got (setOf (λ t. member a t && member b t)) e
+      unfolding objectiveBehind truth
+      set-and tag l = rw l (two-set conjunction _&&_ (λ f g x y. refl) h k)
+
+      pub set-or : (tag : ℕ) → tag ≡ 6 → behind tag ≡ got (setOf (λ t. member a t || member b t)) e
+      unfolding objectiveBehind truth
+      set-or tag l = rw l (two-set disjunction _||_ (λ f g x y. refl) h k)
+
+      pub set-same : (tag : ℕ) → 6 < tag → behind tag ≡ got (setOf (λ t. Bool·beq (member a t) (member b t))) e
+      unfolding objectiveBehind if_then_else_ truth
+      set-same tag l =
+          rw (
+            ne-eqb tag 0 (λ z. omega arith),
+            ne-eqb tag 1 (λ z. omega arith),
+            ne-eqb tag 2 (λ z. omega arith),
+            ne-eqb tag 3 (λ z. omega arith),
+            ne-eqb tag 4 (λ z. omega arith),
+            ne-eqb tag 5 (λ z. omega arith),
+            ne-eqb tag 6 (λ z. omega arith),
+          ) (two-set equivalence Bool·beq (λ f g x y. refl) h k)
 
     -- The refusal of a first part stands.
     pub first-refused : (tag : ℕ) → 3 < tag → {r : ℕ} → mapped trueAt (part bytes q) ≡ fault r → behind tag ≡ fault r

@@ -1,9 +1,8 @@
 -- The method of the reader's inner functions, for their contracts: positions instead of values, sets of states instead of lists. An auditor of the promises needs none of it.
 use Prim.Native.Nat.{ℕ}
 use mathlib.Core.List.{List}
-use mathlib.Core.Bool.{Bool, true, false, _&&_, _||_, Bool·beq}
-use lib.Dec.{eqb}
-use Rattle.lists.specs.Lists.{if_then_else_, exists}
+use mathlib.Core.Bool.{Bool, true, false}
+use Rattle.lists.specs.Lists.{exists}
 use Rattle.states.specs.declared.States.{States}
 use Rattle.states.specs.Sets.{setOf}
 use Rattle.format.specs.Syntax.{Objective, fact, new-fact, Sheet}
@@ -60,8 +59,3 @@ someHolds fs = setOf (λ s. exists (λ f. holds f s) fs)
 unfoldable pub factOf : (fresh : Bool) (i : ℕ) → Objective
 factOf true i = new-fact i
 factOf false i = fact i
-
--- The truth of a formula of two parts, by its tag: 5 and; 6 or; 7 equivalence.
-unfoldable pub joined : (tag : ℕ) (x y : Bool) → Bool
-unfolding if_then_else_
-joined tag x y = if eqb tag 5 then x && y else if eqb tag 6 then x || y else Bool·beq x y

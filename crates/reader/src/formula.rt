@@ -12,11 +12,11 @@ ghost use mathlib.Core.Path.{_≡_};
 ghost use mathlib.Core.Bool.{true, false};
 ghost use Prim.Native.Nat.{_≤_, _<_};
 ghost use lib.ListN.{length};
-ghost use Rattle.states.specs.Sets.{member, setOf};
+ghost use Rattle.states.specs.Sets.{setOf};
 ghost use Rattle.format.specs.Truth.{factIn};
 ghost use Rattle.format.specs.Format.{mapped, mostBytes, mostFacts, deepest, factNumber, objective, epistemic, ofSheet};
 ghost use Rattle.reader.specs.Answers.{setRead, inTheory, statesIn};
-ghost use Rattle.reader.specs.Method.{endRead, ending, factOf, joined};
+ghost use Rattle.reader.specs.Method.{endRead, ending, factOf};
 
 // A set of states and the position after what was read, or why it was refused.
 pub enum Evaluated {
@@ -119,19 +119,6 @@ fn is_theory(view: View) -> bool
     }
 }
 
-// The set that a formula of two parts has, by its tag.
-fn join(tag: usize, a: States, b: States) -> States
-    ensures { λ r. ⌜ r ≡ setOf (λ t. joined tag (member a t) (member b t)) ⌝ }
-{
-    if tag == 5 {
-        return a.intersect(b);
-    }
-    if tag == 6 {
-        return a.union(b);
-    }
-    a.agreement(b)
-}
-
 // An objective formula over n facts with `left` levels of depth left, evaluated in all states of a view at once.
 pub(crate) fn evaluate(bytes: &[u8], at: usize, left: usize, n: usize, view: View) -> Evaluated
     requires { ⌜ length (now bytes) ≤ mostBytes ⌝ }
@@ -163,7 +150,15 @@ pub(crate) fn evaluate(bytes: &[u8], at: usize, left: usize, n: usize, view: Vie
                     }
                     match evaluate(bytes, second, left - 1, n, view) {
                         Evaluated::Refused(r) => Evaluated::Refused(r),
-                        Evaluated::Holds(b, end) => Evaluated::Holds(join(tag, a, b), end),
+                        Evaluated::Holds(b, end) => {
+                            if tag == 5 {
+                                return Evaluated::Holds(a.intersect(b), end);
+                            }
+                            if tag == 6 {
+                                return Evaluated::Holds(a.union(b), end);
+                            }
+                            Evaluated::Holds(a.agreement(b), end)
+                        }
                     }
                 }
             }

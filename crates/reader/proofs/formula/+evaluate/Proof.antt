@@ -11,7 +11,7 @@ use Rattle.reader.specs.declared.formula.View.{View}
 use Rattle.format.specs.Syntax.{Objective}
 use Rattle.format.specs.Format.{Read, Reader, got, mapped, field, objective, objectiveBehind}
 use Rattle.format.proofs.ReaderLaws.{objective-none, objective-cut, objective-tag}
-use Rattle.reader.proofs.EvaluationLaws.{trueAt, set-constant, set-fact, set-new, set-outside, set-not, set-two, first-refused, second-refused, fromOf, toOf, read-true, facts-true}
+use Rattle.reader.proofs.EvaluationLaws.{trueAt, set-constant, set-fact, set-new, set-outside, set-not, set-and, set-or, set-same, first-refused, second-refused, fromOf, toOf, read-true, facts-true}
 use Rattle.reader.specs.Answers.{numberOf, setRead, inTheory, statesIn}
 use Rattle.reader.specs.Method.{fieldRead}
 use borrow.Fn.Kinds.{In}
@@ -22,7 +22,9 @@ use Rattle.reader.proofs.formula.+evaluate.Lts-evaluate as lts
 use Rattle.reader.proofs.bits.field_at.Reads as field-at
 use Rattle.reader.proofs.formula.evaluate_fact.Reads as evaluate-fact
 use Rattle.reader.proofs.formula.is_theory.Reads as is-theory
-use Rattle.reader.proofs.formula.join.Reads as join
+use Rattle.states.proofs.States.intersect.Reads as intersect
+use Rattle.states.proofs.States.union.Reads as union
+use Rattle.states.proofs.States.agreement.Reads as agreement
 use Rattle.states.proofs.States.complement.Reads as complement
 use Rattle.states.proofs.States.uniform.Reads as uniform
 use Rattle.reader.proofs.formula.+evaluate.{statement}
@@ -38,7 +40,7 @@ abbrev below : ℕ → In 1 kinds.ps
 below t = and 1 kinds.ps (falls 1 kinds.ps _<_ μ t) self.Pre
 
 abbrev calls : ℕ → lts.Claims
-calls t = (field-at.Asked, field-at.Learnt, uniform.Asked, uniform.Learnt, evaluate-fact.Asked, evaluate-fact.Learnt, is-theory.Asked, is-theory.Learnt, below t, self.Post, complement.Asked, complement.Learnt, join.Asked, join.Learnt)
+calls t = (field-at.Asked, field-at.Learnt, uniform.Asked, uniform.Learnt, evaluate-fact.Asked, evaluate-fact.Learnt, is-theory.Asked, is-theory.Learnt, below t, self.Post, complement.Asked, complement.Learnt, intersect.Asked, intersect.Learnt, union.Asked, union.Learnt, agreement.Asked, agreement.Learnt)
 
 module _ (t : ℕ) where
   -- The tag is read.
@@ -91,6 +93,19 @@ module _ (t : ℕ) where
   first : (c : First) → sets (told c) (part (told c) (bytes (told c)) (next (told c))) ≡ got (c .before .a .given .0 .0) (c .before .a .given .0 .1 .0)
   unfolding setRead
   first c = sym (read-true (view (told c)) (part (told c) (bytes (told c)) (next (told c)))) ∙ sym (c .before .before .before .evaluate .ensures) ∙ ap setRead (c .before .a .given .1)
+
+  -- The second part is evaluated.
+  abbrev Second : Type 0
+  Second = lts.After-known-told5 (calls t) (given t) self.Post
+
+  abbrev parted : Second → First
+  parted c = c .before .before .before .before .before
+
+  second : (c : Second) → sets (told (parted c)) (part (told (parted c)) (bytes (told (parted c))) (parted c .before .a .given .0 .1 .0)) ≡ got (c .before .b .given .0 .0) (c .before .b .given .0 .1 .0)
+  unfolding setRead
+  second c =
+      let d = told (parted c) in
+      sym (read-true (view d) (part d (bytes d) (parted c .before .a .given .0 .1 .0))) ∙ sym (c .before .before .before .evaluate2 .ensures) ∙ ap setRead (c .before .b .given .1)
 
   returns : lts.Need-returns (calls t) (given t) self.Post
   unfolding setRead numberOf mapped
@@ -177,40 +192,58 @@ module _ (t : ℕ) where
   enum-known-b : lts.Need-enum-known-b (calls t) (given t) self.Post
   enum-known-b c = search needs
 
-  join-requires : lts.Need-join-requires (calls t) (given t) self.Post
-  join-requires c κs = search needs
+  intersect-requires : lts.Need-intersect-requires (calls t) (given t) self.Post
+  intersect-requires c κs = search needs
 
   returns-7 : lts.Need-returns-7 (calls t) (given t) self.Post
-  unfolding setRead numberOf mapped fieldRead
+  unfolding setRead numberOf mapped
   returns-7 c =
-      let a = c .before .before .before .before .before .args in
-      let cut = sym (c .before .before .field-at .ensures) ∙ ap fieldRead (c .enum-told .given .1) in
-      sym (ap (mapped (statesIn (a .view))) (objective-cut (a .n) (inTheory (a .view)) (now (a .bytes)) (a .at) (a .left) (c .before .before .before .if1 .left) cut))
+      let g = c .before .before in
+      let d = told (parted g) in
+      ap (λ (x : States). got x (g .before .b .given .0 .1 .0)) (c .intersect .ensures) ∙ sym (whole d ∙ set-and (fromOf (view d)) (toOf (view d)) (start d .args .n) (inTheory (view d)) (part d) (bytes d) (next d) (first (parted g)) (second g) (tag d) (c .before .if7 .taken))
+
+  union-requires : lts.Need-union-requires (calls t) (given t) self.Post
+  union-requires c κs = search needs
 
   returns-8 : lts.Need-returns-8 (calls t) (given t) self.Post
   unfolding setRead numberOf mapped
   returns-8 c =
+      let g = c .before .before .before in
+      let d = told (parted g) in
+      ap (λ (x : States). got x (g .before .b .given .0 .1 .0)) (c .union .ensures) ∙ sym (whole d ∙ set-or (fromOf (view d)) (toOf (view d)) (start d .args .n) (inTheory (view d)) (part d) (bytes d) (next d) (first (parted g)) (second g) (tag d) (c .before .if8 .taken))
+
+  agreement-requires : lts.Need-agreement-requires (calls t) (given t) self.Post
+  agreement-requires c κs = search needs
+
+  returns-9 : lts.Need-returns-9 (calls t) (given t) self.Post
+  unfolding setRead numberOf mapped fieldRead
+  returns-9 c =
+      let a = c .before .before .before .before .before .args in
+      let cut = sym (c .before .before .field-at .ensures) ∙ ap fieldRead (c .enum-told .given .1) in
+      sym (ap (mapped (statesIn (a .view))) (objective-cut (a .n) (inTheory (a .view)) (now (a .bytes)) (a .at) (a .left) (c .before .before .before .if1 .left) cut))
+
+  returns-10 : lts.Need-returns-10 (calls t) (given t) self.Post
+  unfolding setRead numberOf mapped
+  returns-10 c =
       let d = c .before .before .before .before .before .before .before in
       let none = sym (read-true (view d) (part d (bytes d) (next d))) ∙ sym (c .before .before .before .evaluate .ensures) ∙ ap setRead (c .before .r .given .1) in
       sym (whole d ∙ first-refused (fromOf (view d)) (toOf (view d)) (start d .args .n) (inTheory (view d)) (part d) (bytes d) (next d) (tag d) (omega (arith, c .before .before .before .before .if4 .left, c .before .before .before .before .before .if3 .left, c .before .before .before .before .before .before .if2 .left)) none)
 
-  returns-9 : lts.Need-returns-9 (calls t) (given t) self.Post
+  returns-11 : lts.Need-returns-11 (calls t) (given t) self.Post
   unfolding setRead numberOf mapped
-  returns-9 c =
+  returns-11 c =
       let f = c .before .before .before .before .before in
       let d = told f in
       let none = sym (read-true (view d) (part d (bytes d) (f .before .a .given .0 .1 .0))) ∙ sym (c .before .before .before .evaluate2 .ensures) ∙ ap setRead (c .before .r2 .given .1) in
       sym (whole d ∙ second-refused (fromOf (view d)) (toOf (view d)) (start d .args .n) (inTheory (view d)) (part d) (bytes d) (next d) (tag d) (omega (arith, c .before .before .before .before .if6 .left, f .before .before .before .before .if4 .left, f .before .before .before .before .before .if3 .left, f .before .before .before .before .before .before .if2 .left)) (first f) none)
 
-  returns-10 : lts.Need-returns-10 (calls t) (given t) self.Post
+  returns-12 : lts.Need-returns-12 (calls t) (given t) self.Post
   unfolding setRead numberOf mapped
-  returns-10 c =
-      let f = c .before .before .before .before .before .before in
-      let d = told f in
-      let second = sym (read-true (view d) (part d (bytes d) (f .before .a .given .0 .1 .0))) ∙ sym (c .before .before .before .before .evaluate2 .ensures) ∙ ap setRead (c .before .before .b .given .1) in
-      ap (λ (x : States). got x (c .before .before .b .given .0 .1 .0)) (c .join .ensures)
-      ∙ sym (whole d ∙ set-two (fromOf (view d)) (toOf (view d)) (start d .args .n) (inTheory (view d)) (part d) (bytes d) (next d) (tag d) (omega (arith, c .before .before .before .before .before .if6 .left, f .before .before .before .before .if4 .left, f .before .before .before .before .before .if3 .left, f .before .before .before .before .before .before .if2 .left)) (first f) second)
+  returns-12 c =
+      let g = c .before .before .before in
+      let d = told (parted g) in
+      ap (λ (x : States). got x (g .before .b .given .0 .1 .0)) (c .agreement .ensures) ∙ sym (whole d ∙ set-same (fromOf (view d)) (toOf (view d)) (start d .args .n) (inTheory (view d)) (part d) (bytes d) (next d) (first (parted g)) (second g) (tag d) (omega (arith, c .before .if8 .left, c .before .before .if7 .left, g .before .before .before .before .if6 .left, parted g .before .before .before .before .if4 .left, parted g .before .before .before .before .before .if3 .left, parted g .before .before .before .before .before .before .if2 .left)))
 
 pub +evaluate-spec : {M : Type 1} → statement M
 +evaluate-spec = close μ λ t. lts.spec (calls t) (given t) self.Post
-    (returns t) (field-at-requires t) (enum-told t) (enum-known-tag t) (uniform-requires t) (returns-2 t) (evaluate-fact-requires t) (returns-3 t) (is-theory-requires t) (evaluate-fact-requires-2 t) (returns-4 t) (returns-5 t) (sub-evaluate t) (evaluate-requires t) (enum-known-r t) (enum-known-a t) (complement-requires t) (returns-6 t) (sub-evaluate-2 t) (evaluate-requires-2 t) (enum-known-r-2 t) (enum-known-b t) (join-requires t) (returns-7 t) (returns-8 t) (returns-9 t) (returns-10 t)
+    (returns t) (field-at-requires t) (enum-told t) (enum-known-tag t) (uniform-requires t) (returns-2 t) (evaluate-fact-requires t) (returns-3 t) (is-theory-requires t) (evaluate-fact-requires-2 t) (returns-4 t) (returns-5 t) (sub-evaluate t) (evaluate-requires t) (enum-known-r t) (enum-known-a t) (complement-requires t) (returns-6 t) (sub-evaluate-2 t) (evaluate-requires-2 t) (enum-known-r-2 t) (enum-known-b t) (intersect-requires t) (returns-7 t) (union-requires t) (returns-8 t) (agreement-requires t) (returns-9 t) (returns-10 t) (returns-11 t) (returns-12 t)
