@@ -3,7 +3,7 @@
 //! A sheet is read into data ([`read`]), verified as a plan ([`verify`], by
 //! progression; [`runs`], by listing runs), executed step by step ([`runner`]),
 //! and its failing traces can be checked ([`check`]). [`encode`], [`random`]
-//! and [`edges`] make sheets, good and damaged ones.
+//! and [`edges`] make sheets, good and damaged ones; [`records`] such records.
 
 pub mod check;
 pub mod edges;
@@ -12,6 +12,7 @@ pub mod execute;
 pub mod print;
 pub mod random;
 pub mod read;
+pub mod records;
 pub mod refusal;
 pub mod runner;
 pub mod runs;

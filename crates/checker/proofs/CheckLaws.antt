@@ -5,12 +5,13 @@ use mathlib.Core.List.{List}
 use mathlib.Core.Bool.{Bool, _&&_}
 use lib.ListN.{length}
 use Rattle.states.specs.declared.States.{States}
-use Rattle.format.specs.Format.{accepted, refused, reading}
+use Rattle.format.specs.Format.{gives, refused, reading}
 use Rattle.reader.specs.declared.refusal.Refusal.{Refusal}
 use Rattle.reader.specs.Answers.{numberOf}
-use Rattle.semantics.specs.Checker.{isTraceLength, checkedFor, checked}
-use Rattle.semantics.proofs.CheckerLaws.{checked-accepted}
+use Rattle.semantics.specs.Checker.{isTraceLength, checked}
+use Rattle.semantics.proofs.CheckerLaws.{checked-refused, checked-accepted}
 use Rattle.routine.specs.declared.sheet.Prepared.{Prepared}
+use Rattle.routine.specs.Memory.{Sized}
 use Rattle.routine.specs.Tables.{preparedOf, startOf, prepared, sheetHeads, nodeCells, setWords}
 use Rattle.routine.proofs.TableLaws.{Tabled, prepared-tabled, ready-sheet, refused-sheet}
 use Rattle.checker.specs.Shown.{showsBy}
@@ -18,18 +19,16 @@ use Rattle.checker.proofs.ShownLaws.{shown-failing}
 
 module _ (bytes shown : List ℕ) where
   pub refused-checked : (r : Refusal) → preparedOf (Prepared.Refused r) ≡ startOf (reading bytes) → refused (numberOf r) ≡ checked bytes shown
-  unfolding checked checkedFor
-  refused-checked r e = sym (ap (checkedFor shown) (refused-sheet (reading bytes) r e))
+  refused-checked r e = sym (checked-refused bytes shown (numberOf r) (refused-sheet (reading bytes) r e))
 
   -- What the trace shows by the tables that were prepared is the answer.
   pub ready-checked : (start : States) → preparedOf (Prepared.Ready start) ≡ startOf (reading bytes)
-      → (heads nodes sets : List ℕ) → length heads ≡ 93 → length nodes ≡ 8192 → length sets ≡ 40960
-      → (heads′ nodes′ sets′ : List ℕ) → heads′ ≡ prepared sheetHeads (reading bytes) heads → nodes′ ≡ prepared nodeCells (reading bytes) nodes → sets′ ≡ prepared setWords (reading bytes) sets
-      → (r : Bool) → r ≡ isTraceLength (length shown) && showsBy heads′ nodes′ sets′ start shown
-      → accepted r ≡ checked bytes shown
-  ready-checked start e heads nodes sets h n s heads′ nodes′ sets′ h′ n′ s′ r y =
+      → (heads nodes sets heads′ nodes′ sets′ : List ℕ) → heads′ ≡ prepared sheetHeads (reading bytes) heads → nodes′ ≡ prepared nodeCells (reading bytes) nodes → sets′ ≡ prepared setWords (reading bytes) sets
+      → (r b : Bool) → r ≡ isTraceLength (length shown) && showsBy heads′ nodes′ sets′ start shown → r ≡ b
+      → Sized heads nodes sets → gives b ≡ checked bytes shown
+  ready-checked start e heads nodes sets heads′ nodes′ sets′ h n s r b y t z =
       let q = ready-sheet (reading bytes) start e in
       let sheet = q .0 in
-      let tabled : Tabled sheet heads′ nodes′ sets′ = rw (h′, n′, s′) (prepared-tabled bytes sheet (q .1) heads nodes sets h n s) in
-      ap accepted (y ∙ ap (λ (u : States). isTraceLength (length shown) && showsBy heads′ nodes′ sets′ u shown) (q .2) ∙ shown-failing bytes sheet (q .1) heads′ nodes′ sets′ tabled shown)
+      let tabled : Tabled sheet heads′ nodes′ sets′ = rw (h, n, s) (prepared-tabled bytes sheet (q .1) heads nodes sets z) in
+      ap gives (sym t ∙ y ∙ ap (λ (u : States). isTraceLength (length shown) && showsBy heads′ nodes′ sets′ u shown) (q .2) ∙ shown-failing bytes sheet (q .1) heads′ nodes′ sets′ tabled shown)
       ∙ sym (checked-accepted bytes sheet (q .1) shown)

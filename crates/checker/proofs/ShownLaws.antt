@@ -13,11 +13,12 @@ use Rattle.states.specs.declared.States.{States}
 use Rattle.states.specs.Sets.{member, setOf}
 use Rattle.format.specs.Syntax.{Sheet}
 use Rattle.format.specs.Truth.{isState, holds}
-use Rattle.format.specs.Format.{accepted, reading}
+use Rattle.format.specs.Format.{gives, reading}
 use Rattle.format.proofs.SheetLaws.{accepted-shape}
 use Rattle.semantics.specs.Runs.{Entry, entry, History, extended, replies, step, isSteps, holdsAfter}
 use Rattle.semantics.specs.Routine.{Policy, done, perform, routine, follows, isFull}
 use Rattle.semantics.specs.Replies.{leftAfter}
+use Rattle.semantics.specs.Verdict.{longestTrace}
 use Rattle.semantics.specs.Checker.{isTraceLength, shownHistory, shownStates, showsFailing}
 use Rattle.routine.specs.Tables.{sheetStart}
 use Rattle.routine.proofs.TableLaws.{Tabled}
@@ -74,7 +75,7 @@ module _ (sheet : Sheet) where
           moved false q true f l = refl
           moved false q false f l = refl
 
-module _ (bytes : List ℕ) (sheet : Sheet) (read : reading bytes ≡ accepted sheet) (heads nodes sets : List ℕ) (tabled : Tabled sheet heads nodes sets) where
+module _ (bytes : List ℕ) (sheet : Sheet) (read : reading bytes ≡ gives sheet) (heads nodes sets : List ℕ) (tabled : Tabled sheet heads nodes sets) where
   few : sheet .facts ≤ 8
   few = accepted-shape bytes sheet read .facts-most
 
@@ -198,9 +199,9 @@ module _ (bytes : List ℕ) (sheet : Sheet) (read : reading bytes ≡ accepted s
 -- A trace's length is odd, so that behind its start state the number of bytes is even.
 odd-length : (l : ℕ) → isTraceLength l ≡ true → l % 2 ≡ 1
 unfolding isTraceLength
-odd-length l e = eqb-true (l % 2) 1 ((both-true (eqb (l % 2) 1) (leb l 129) e) .0)
+odd-length l e = eqb-true (l % 2) 1 ((both-true (eqb (l % 2) 1) (leb l longestTrace) e) .0)
 
-pub shown-failing : (bytes : List ℕ) (sheet : Sheet) → reading bytes ≡ accepted sheet → (heads nodes sets : List ℕ) → Tabled sheet heads nodes sets → (shown : List ℕ)
+pub shown-failing : (bytes : List ℕ) (sheet : Sheet) → reading bytes ≡ gives sheet → (heads nodes sets : List ℕ) → Tabled sheet heads nodes sets → (shown : List ℕ)
     → isTraceLength (length shown) && showsBy heads nodes sets (sheetStart sheet) shown ≡ isTraceLength (length shown) && showsFailing sheet shown
 unfolding showsBy showsFailing
 shown-failing bytes sheet read heads nodes sets tabled [] = refl

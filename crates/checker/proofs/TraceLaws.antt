@@ -10,6 +10,7 @@ use borrow.Author.Tests.{eq-eqb, ne-eqb, le-leb, lt-leb}
 use Rattle.lists.proofs.ListLaws.{drop-next}
 use Rattle.states.specs.declared.States.{States}
 use Rattle.states.specs.Sets.{member, setOf}
+use Rattle.semantics.specs.Verdict.{longestTrace}
 use Rattle.semantics.specs.Checker.{isTraceLength}
 use Rattle.progression.specs.declared.place.Place.{Place}
 use Rattle.progression.specs.Machine.{settled, stepped}
@@ -21,17 +22,17 @@ module _ (l : ℕ) where
   unfolding isTraceLength
   even-length shows e = rw e
 
-  pub above-length : (shows : Bool) → 129 < l → isTraceLength l && shows ≡ false
+  pub above-length : (shows : Bool) → longestTrace < l → isTraceLength l && shows ≡ false
   unfolding isTraceLength
-  above-length shows h = rw (lt-leb l 129 h) (none (eqb (l % 2) 1))
+  above-length shows h = rw (lt-leb l longestTrace h) (none (eqb (l % 2) 1))
     where
       none : (b : Bool) → (b && false) && shows ≡ false
       none true = refl
       none false = refl
 
-  pub trace-length : (l % 2 ≡ 0 → ⊥) → l ≤ 129 → isTraceLength l ≡ true
+  pub trace-length : (l % 2 ≡ 0 → ⊥) → l ≤ longestTrace → isTraceLength l ≡ true
   unfolding isTraceLength
-  trace-length odd h = rw (eq-eqb (l % 2) 1 (omega arith), le-leb l 129 h)
+  trace-length odd h = rw (eq-eqb (l % 2) 1 (omega arith), le-leb l longestTrace h)
 
 -- What stands from a place on.
 drop-two : (xs : List ℕ) (k : ℕ) → k + 1 < length xs → drop k xs ≡ getD xs k 0 ∷ getD xs (k + 1) 0 ∷ drop (k + 2) xs

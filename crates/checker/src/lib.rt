@@ -13,7 +13,10 @@ use states::States;
 ghost use mathlib.Core.Path.{_≡_};
 ghost use mathlib.Core.Bool.{_&&_};
 ghost use lib.ListN.{length};
+ghost use Rattle.format.specs.Format.{reading};
 ghost use Rattle.semantics.specs.Checker.{isTraceLength, checked};
+ghost use Rattle.routine.specs.Memory.{Sized};
+ghost use Rattle.routine.specs.Tables.{prepared as preparedBy, sheetHeads, nodeCells, setWords};
 ghost use Rattle.checker.specs.Answers.{answerOf};
 ghost use Rattle.checker.specs.Shown.{showsBy};
 
@@ -78,20 +81,34 @@ fn shows(
     }
 }
 
-// Whether a trace is a full run following the routine of a sheet whose history fails the goal, least or not.
+// Whether a trace is a full run following the routine of a sheet whose history fails the goal, least or not; in lent
+// tables, whatever they hold. They are then those of the sheet; a refusal leaves them as they were.
+pub fn check_in(
+    bytes: &[u8],
+    trace: &[u8],
+    heads: &mut [u16; HEAD_CELLS],
+    nodes: &mut [u16; NODE_CELLS],
+    sets: &mut [u64; SET_WORDS],
+) -> Checked
+    ensures { λ r. ⌜ (Sized (now (heads .entry)) (now (nodes .entry)) (now (sets .entry)) → answerOf r ≡ checked (now (bytes .entry)) (now (trace .entry))) × (now (heads .exit) ≡ preparedBy sheetHeads (reading (now (bytes .entry))) (now (heads .entry))) × (now (nodes .exit) ≡ preparedBy nodeCells (reading (now (bytes .entry))) (now (nodes .entry))) × (now (sets .exit) ≡ preparedBy setWords (reading (now (bytes .entry))) (now (sets .entry))) ⌝ }
+{
+    match prepare(bytes, heads, nodes, sets) {
+        Prepared::Refused(r) => Checked::Refused(r),
+        Prepared::Ready(start) => {
+            if shows(heads, nodes, sets, start, trace) {
+                return Checked::Yes;
+            }
+            Checked::No
+        }
+    }
+}
+
+// The same in tables of its own.
 pub fn check(bytes: &[u8], trace: &[u8]) -> Checked
     ensures { λ r. ⌜ answerOf r ≡ checked (now (bytes .entry)) (now (trace .entry)) ⌝ }
 {
     let mut heads = [0u16; HEAD_CELLS];
     let mut nodes = [0u16; NODE_CELLS];
     let mut sets = [0u64; SET_WORDS];
-    match prepare(bytes, &mut heads, &mut nodes, &mut sets) {
-        Prepared::Refused(r) => Checked::Refused(r),
-        Prepared::Ready(start) => {
-            if shows(&heads, &nodes, &sets, start, trace) {
-                return Checked::Yes;
-            }
-            Checked::No
-        }
-    }
+    check_in(bytes, trace, &mut heads, &mut nodes, &mut sets)
 }

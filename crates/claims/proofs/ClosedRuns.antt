@@ -26,11 +26,11 @@ use Rattle.verifier.specs.declared.verdict.Verdict.{Verdict}
 use Rattle.verifier.specs.Answers.{answerOf as verifiedOf}
 use Rattle.verifier.proofs.verdict.Verdict as verdict-type
 use Rattle.verifier.proofs.verify.Symbol as verify-symbol
-use Rattle.runner.specs.declared.kept.Record.{Record}
-use Rattle.runner.specs.declared.kept.AfterLoad.{AfterLoad}
+use Rattle.runner.specs.declared.calls.Record.{Record}
+use Rattle.runner.specs.declared.calls.AfterLoad.{AfterLoad}
 use Rattle.runner.specs.Records.{loaded}
-use Rattle.runner.proofs.kept.AfterLoad as after-load-type
-use Rattle.runner.proofs.kept.Record.load.Symbol as load-symbol
+use Rattle.runner.proofs.calls.AfterLoad as after-load-type
+use Rattle.runner.proofs.calls.Record.load.Symbol as load-symbol
 use Rattle.runner.specs.Calls.{Call, Event, callOf, Bytes, Calls}
 use Rattle.claims.specs.Demands.{AllUnder, AllBytes}
 use Rattle.claims.proofs.Memory.{Loads, pointer, loads-bytes}

@@ -3,6 +3,7 @@ use Prim.Native.Nat.{ℕ, _<_}
 use mathlib.Core.Path.{_≡_}
 use mathlib.Core.List.{List}
 use mathlib.Core.Bool.{Bool}
+use Rattle.routine.specs.Memory.{nodeMost}
 use Rattle.states.specs.declared.States.{States}
 use Rattle.format.specs.Format.{reading}
 use Rattle.reader.specs.declared.sheet.Acceptance.{Acceptance}
@@ -26,7 +27,7 @@ pub record Contracts {ℓ} (library : Library {ℓ}) : Type ℓ where
       → (preparedOf p ≡ startOf (reading bytes)) × (heads′ ≡ prepared sheetHeads (reading bytes) heads) × (nodes′ ≡ prepared nodeCells (reading bytes) nodes)
       × (sets′ ≡ prepared setWords (reading bytes) sets)
   pub settle-contract : (nodes sets : List ℕ) (set : States) (at : ℕ) (p : Place) → library .settles nodes sets set at p → p ≡ settled nodes sets set at
-  pub settle-bounds : (nodes sets : List ℕ) (set : States) (at node a : ℕ) → library .settles nodes sets set at (Place.Act node a) → (node < 2048) × (a < 65536)
+  pub settle-bounds : (nodes sets : List ℕ) (set : States) (at node a : ℕ) → library .settles nodes sets set at (Place.Act node a) → (node < nodeMost) × (a < 65536)
   pub step-contract : (heads sets : List ℕ) (set : States) (a r : ℕ) (next : States) → library .steps heads sets set a r next → next ≡ stepped heads sets set a r
   pub known-contract : (sets : List ℕ) (k : ℕ) (set : States) (b : Bool) → library .knows sets k set b → b ≡ knownBy sets set k
   pub verify-contract : (bytes : List ℕ) (budget : ℕ) (old : List ℕ) (r : Verdict) (memory : List ℕ) → library .verifies bytes budget old r memory

@@ -7,14 +7,12 @@ use mathlib.Core.Bool.{Bool, true}
 use native.Mathlib.Omega.{arith}
 use native.Mathlib.Decide.{decLt}
 use lib.ListN.{length, take, drop, getD}
-use borrow.Author.Tests.{lt-ltb}
-use Rattle.lists.specs.Lists.{if_then_else_}
 use Rattle.states.specs.declared.States.{States}
 use Rattle.states.specs.Sets.{member, setOf, members}
 use Rattle.states.proofs.SetLaws.{members-mem, mem-members}
 use Rattle.format.specs.Syntax.{Objective, Epistemic, known, not-known, all-of, any-of, Program, end, act, branch, Sheet}
 use Rattle.format.specs.Truth.{holds}
-use Rattle.format.specs.Format.{Answer, accepted, refused, reading}
+use Rattle.format.specs.Format.{Answer, gives, refused, reading}
 use Rattle.reader.specs.declared.sheet.Acceptance.{Acceptance}
 use Rattle.reader.specs.Answers.{numberOf, answerOf as readOf, withoutValue}
 use Rattle.reader.proofs.AnswerLaws.{same-answer, was-accepted, was-refused}
@@ -23,17 +21,17 @@ use Rattle.format.proofs.StateLaws.{state-byte}
 use Rattle.format.proofs.SheetLaws.{accepted-shape}
 use Rattle.semantics.specs.Runs.{Entry, entry, History, extended, replies, IsRun, lastState, Known, Holds, holdsAfter}
 use Rattle.semantics.specs.Routine.{perform, routine, Follows, isFull}
-use Rattle.semantics.specs.Verdict.{Verdict as Meant, historyCount, valid, invalid, stopped, Outcome, outcome, written, Verified, verified}
-use Rattle.semantics.specs.Checker.{checkedFor, checked}
+use Rattle.semantics.specs.Verdict.{Verdict as Meant, historyCount, valid, invalid, stopped, Outcome, outcome, written, Verified, longestTrace, LongEnough, verified}
+use Rattle.semantics.specs.Checker.{checked}
 use Rattle.semantics.specs.Replies.{leftAfter}
 use Rattle.semantics.specs.Progression.{possible, startSet, setAfter}
 use Rattle.semantics.proofs.RunLaws.{tested-holds, holds-tested}
 use Rattle.semantics.proofs.ProgressionLaws.{possible-run, run-possible, set-states}
 use Rattle.semantics.proofs.VerdictLaws.{stopped-means, means-stopped, valid-means, means-valid, invalid-means, means-invalid}
 use Rattle.semantics.proofs.ReplyLaws.{isDone, full-left, left-next, next-follows}
-use Rattle.semantics.proofs.MemoryLaws.{verified-accepted, verified-refused, memory-kept, begins}
+use Rattle.semantics.proofs.MemoryLaws.{verified-short, verified-accepted, verified-refused, memory-kept, begins}
 use Rattle.semantics.proofs.AcceptedLaws.{starts}
-use Rattle.semantics.proofs.CheckerLaws.{yes-failing, failing-yes}
+use Rattle.semantics.proofs.CheckerLaws.{checked-refused, checked-number, yes-failing, failing-yes}
 use Rattle.routine.specs.declared.sheet.Prepared.{Prepared}
 use Rattle.routine.specs.Memory.{setAt}
 use Rattle.routine.specs.Tables.{sheetStart, sheetHeads, nodeCells, setWords, preparedOf, startOf, prepared, atomSets, programSets, sheetActionSets, sheetSets}
@@ -44,10 +42,10 @@ use Rattle.progression.specs.Machine.{settled, stepped}
 use Rattle.progression.proofs.StepLaws.{tabled-step, members-possible, member-states}
 use Rattle.progression.proofs.RoutineLaws.{after-more, known-after, Reached, AtAction, AtEnd, start-reached, reached-place}
 use Rattle.verifier.specs.declared.verdict.Verdict.{Verdict}
-use Rattle.verifier.specs.Answers.{answerOf as verifiedOf}
+use Rattle.verifier.specs.Answers.{answerOf as verifiedOf, verifiedBy}
 use Rattle.checker.specs.declared.Checked.{Checked}
 use Rattle.checker.specs.Answers.{answerOf as checkedOf}
-use Rattle.runner.specs.Records.{reportOn, recordAfter}
+use Rattle.runner.specs.Records.{recordOf, heldSheet, reportOn, recordAfter}
 use Rattle.runner.specs.Answers.{rejectionNumber, reportedOf}
 use Rattle.runner.proofs.CallLaws.{refused-unchanged}
 use Rattle.claims.specs.Demands.{HeadsFit, NodesFit, SetsFit, WordsFit, Atom, Condition, Tested, Library, Prepares, Carried, begin, onward, Reaches, first, further, Demand1, Demand2, Supposed, Demand3Verdict, Demand3}
@@ -58,31 +56,23 @@ use Rattle.runner.proofs.AnswerLaws.{told-one, reported-one}
 use Rattle.runner.specs.Calls.{ListsRun}
 use Rattle.runner.proofs.ListLaws.{after-lists, none-told}
 
--- The checker, by the sheet's reading.
-checked-refused : (shown : List ℕ) (x : Answer Sheet) (k : ℕ) → refused k ≡ checkedFor shown x → x ≡ refused k
-unfolding checkedFor
-checked-refused shown (accepted sheet) k e = let z : _≡_ {A = ℕ} 0 1 = cc in absurd (omega arith)
-checked-refused shown (refused r) k e = cc
-
-verified-number : (bytes : List ℕ) (budget : ℕ) (old : List ℕ) → 129 ≤ length old → (k : ℕ) → refused k ≡ verified bytes budget old .answer → reading bytes ≡ refused k
+-- Of a memory that is long enough, only a refused sheet gets a number.
+verified-number : (bytes : List ℕ) (budget : ℕ) (old : List ℕ) → LongEnough old → (k : ℕ) → refused k ≡ verified bytes budget old .answer → reading bytes ≡ refused k
 verified-number bytes budget old enough k e = go (reading bytes) refl
   where
     go : (x : Answer Sheet) → reading bytes ≡ x → x ≡ refused k
-    go (accepted sheet) read = let d = e ∙ ap (λ (v : Verified). v .answer) (verified-accepted bytes sheet read budget old enough) in let z : _≡_ {A = ℕ} 0 1 = cc in absurd (omega arith)
+    go (gives sheet) read = let d = e ∙ ap (λ (v : Verified). v .answer) (verified-accepted bytes sheet read budget old enough) in let z : _≡_ {A = ℕ} 0 1 = cc in absurd (omega arith)
     go (refused r) read = let d = e ∙ ap (λ (v : Verified). v .answer) (verified-refused bytes r read budget old enough) in cc
 
--- A short memory gets 30.
-verified-short : (bytes : List ℕ) (budget : ℕ) (old : List ℕ) → length old < 129 → verified bytes budget old ≡ record { answer = refused 30; memory = old }
-unfolding verified if_then_else_
-verified-short bytes budget old l = rw (lt-ltb (length old) 129 l)
+-- Nothing but a short memory gets 30: no sheet is refused with it.
+only-short : (bytes : List ℕ) (budget : ℕ) (old : List ℕ) → refused 30 ≡ verified bytes budget old .answer → LongEnough old → ⊥
+only-short bytes budget old e enough = omega (arith, refused-number bytes 30 (verified-number bytes budget old enough 30 e) .1)
 
--- And nothing else does: no sheet is refused with it.
-only-short : (bytes : List ℕ) (budget : ℕ) (old : List ℕ) → refused 30 ≡ verified bytes budget old .answer → length old < 129
-only-short bytes budget old e =
-    elim (decLt (length old) 129) [
-      | yes l ↦ l
-      | no g ↦ omega (arith, refused-number bytes 30 (verified-number bytes budget old (omega (arith, g)) 30 e) .1)
-    ]
+not-long : (old : List ℕ) → (LongEnough old → ⊥) → length old < longestTrace
+not-long old short = elim (decLt (length old) longestTrace) [
+  | yes l ↦ l
+  | no g ↦ absurd (short (omega (arith, g)))
+]
 
 -- An element of a list stands at a place of it.
 mem-get : {A : Type 0} (d : A) {x : A} (xs : List A) → List·Memᴰ x xs → (k : ℕ) × (k < length xs) × (getD xs k d ≡ x)
@@ -113,12 +103,12 @@ tested-set : (f : Objective) (sheet : Sheet) → Tested f sheet → List·Memᴰ
 unfolding Tested sheetSets
 tested-set f sheet t =
     Memᴰ·append-right (sheetActionSets sheet)
-    (⊎-elim (λ g. Memᴰ·append-right (programSets (sheet .program)) (atom-set f (sheet .goal) g)) (λ c. Memᴰ·append-left (atomSets (sheet .goal)) (condition-set f (c .0) (c .2) (sheet .program) (c .1))) t)
+    (⊎-elim (λ g. Memᴰ·append-left (programSets (sheet .program)) (atom-set f (sheet .goal) g)) (λ c. Memᴰ·append-right (atomSets (sheet .goal)) (condition-set f (c .0) (c .2) (sheet .program) (c .1))) t)
 
 module _ {ℓ} (library : Library {ℓ}) (contracts : Contracts library) where
   -- Demand 1.
   pub demand1 : Demand1 library
-  unfolding verifiedOf reportedOf recordAfter
+  unfolding verifiedOf verifiedBy reportedOf recordAfter
   demand1 = record {
     memory-holds = λ bytes budget old r memory call.
         let v = contracts .verify-contract bytes budget old r memory call in
@@ -132,7 +122,7 @@ module _ {ℓ} (library : Library {ℓ}) (contracts : Contracts library) where
           shown .1,
           k .3,
           shown .2,
-          verdict-one r (Verdict.Invalid (historyCount (k .0)) (length (shown .0))) (v .0 ∙ k .4 ∙ ap (λ (l : ℕ). accepted (invalid (historyCount (k .0)) l)) (sym (shown .3))),
+          verdict-one r (Verdict.Invalid (historyCount (k .0)) (length (shown .0))) (v .0 ∙ k .4 ∙ ap (λ (l : ℕ). gives (invalid (historyCount (k .0)) l)) (sym (shown .3))),
           v .1 ∙ k .6 ∙ ap (λ (bytes : List ℕ). bytes ++ drop (length bytes) old) (shown .4),
           ap length (v .1) ∙ k .8,
         ))
@@ -140,9 +130,9 @@ module _ {ℓ} (library : Library {ℓ}) (contracts : Contracts library) where
     next-keeps = λ r t call. contracts .runner-contracts .next-contract r t call .1;
     refused-keeps = λ r x t call why e.
         let c = contracts .runner-contracts .report-contract r x t call in
-        c .1 ∙ sym (refused-unchanged r (rejectionNumber why) (reportOn r x) (sym (ap reportedOf e) ∙ c .0));
+        c .1 ∙ sym (refused-unchanged (recordOf (heldSheet r)) r (rejectionNumber why) (reportOn r x) (sym (ap reportedOf e) ∙ c .0));
     read-fixed = contracts .read-contract;
-    verify-fixed = contracts .verify-contract;
+    verify-fixed = λ bytes budget old r memory call. let v = contracts .verify-contract bytes budget old r memory call in λ i. record { answer = v .0 i; memory = v .1 i };
     check-fixed = contracts .check-contract;
     load-fixed = contracts .runner-contracts .load-contract;
     next-fixed = λ r t call. contracts .runner-contracts .next-contract r t call .0;
@@ -155,7 +145,7 @@ module _ {ℓ} (library : Library {ℓ}) (contracts : Contracts library) where
     short-exactly = λ bytes budget old r memory call.
         let v = contracts .verify-contract bytes budget old r memory call .0 in (
           λ e. only-short bytes budget old (sym (ap verifiedOf e) ∙ v),
-          λ l. verdict-one r Verdict.ShortMemory (v ∙ ap (λ (x : Verified). x .answer) (verified-short bytes budget old l)),
+          λ l. verdict-one r Verdict.ShortMemory (v ∙ ap (λ (x : Verified). x .answer) (verified-short bytes budget old (not-long old l))),
         );
   }
 
@@ -189,12 +179,12 @@ module _ {ℓ} (library : Library {ℓ}) (contracts : Contracts library) where
     tabled =
         let m = made in
         rw (m .1, m .2, m .3)
-        (prepared-tabled bytes sheet (tables .read) (tables .heads₀) (tables .nodes₀) (tables .sets₀) (tables .heads-long) (tables .nodes-long) (tables .sets-long))
+        (prepared-tabled bytes sheet (tables .read) (tables .heads₀) (tables .nodes₀) (tables .sets₀) (tables .sized))
 
     start-is : start ≡ sheetStart sheet
     start-is =
         let q = ready-sheet (reading bytes) start (made .0) in
-        let same : accepted (q .0) ≡ accepted sheet = sym (q .1) ∙ tables .read in
+        let same : gives (q .0) ≡ gives sheet = sym (q .1) ∙ tables .read in
         let one : q .0 ≡ sheet = cc in
         q .2 ∙ ap sheetStart one
 
@@ -297,7 +287,7 @@ module _ {ℓ} (library : Library {ℓ}) (contracts : Contracts library) where
 
   -- Demand 2.
   pub demand2 : Demand2 library
-  unfolding readOf verifiedOf checkedOf withoutValue checked checkedFor preparedOf startOf
+  unfolding readOf verifiedOf checkedOf withoutValue preparedOf startOf
   demand2 = record {
     read-accepts = λ bytes a call.
         let e = contracts .read-contract bytes a call in
@@ -315,7 +305,7 @@ module _ {ℓ} (library : Library {ℓ}) (contracts : Contracts library) where
         );
     check-refuses = λ bytes shown a call r.
         let e = contracts .check-contract bytes shown a call in
-        (λ k. checked-refused shown (reading bytes) (numberOf r) (sym (ap checkedOf k) ∙ e), λ q. checked-one a (Checked.Refused r) (e ∙ ap (checkedFor shown) q));
+        (λ k. checked-number bytes shown (numberOf r) (sym (ap checkedOf k) ∙ e), λ q. checked-one a (Checked.Refused r) (e ∙ checked-refused bytes shown (numberOf r) q));
     prepare-accepts = λ bytes heads nodes sets p heads′ nodes′ sets′ call sheet read.
         prepared-one p (Prepared.Ready (sheetStart sheet)) (contracts .prepare-contract bytes heads nodes sets p heads′ nodes′ sets′ call .0 ∙ ap startOf read);
     prepare-refuses = λ bytes heads nodes sets p heads′ nodes′ sets′ call r.
@@ -335,18 +325,18 @@ module _ {ℓ} (library : Library {ℓ}) (contracts : Contracts library) where
 
   -- Demand 3, of the verdict.
   module _ (bytes : List ℕ) (sheet : Sheet) (budget : ℕ) (old : List ℕ) (r : Verdict) (memory : List ℕ) (supposed : Supposed library bytes sheet budget old r memory) where
-    abbrev read : reading bytes ≡ accepted sheet
+    abbrev read : reading bytes ≡ gives sheet
     read = supposed .read
 
-    answered : (verifiedOf r ≡ accepted (outcome sheet budget .verdict)) × (memory ≡ written (outcome sheet budget .shown) old)
+    answered : (verifiedOf r ≡ gives (outcome sheet budget .verdict)) × (memory ≡ written (outcome sheet budget .shown) old)
     answered =
         let v = contracts .verify-contract bytes budget old r memory (supposed .call) in
         let w = verified-accepted bytes sheet read budget old (supposed .enough) in
         (v .0 ∙ ap (λ (x : Verified). x .answer) w, v .1 ∙ ap (λ (x : Verified). x .memory) w)
 
-    verdict-is : (q : Verdict) (v : Meant) → verifiedOf q ≡ accepted v → (r ≡ q) ↔ (outcome sheet budget .verdict ≡ v)
+    verdict-is : (q : Verdict) (v : Meant) → verifiedOf q ≡ gives v → (r ≡ q) ↔ (outcome sheet budget .verdict ≡ v)
     verdict-is q v e =
-        (λ k. let d : accepted (outcome sheet budget .verdict) ≡ accepted v = sym (answered .0) ∙ ap verifiedOf k ∙ e in cc, λ k. verdict-one r q (answered .0 ∙ ap accepted k ∙ sym e))
+        (λ k. let d : gives (outcome sheet budget .verdict) ≡ gives v = sym (answered .0) ∙ ap verifiedOf k ∙ e in cc, λ k. verdict-one r q (answered .0 ∙ ap gives k ∙ sym e))
 
     pub demand3-verdict : Demand3Verdict library bytes sheet budget old r memory
     unfolding verifiedOf

@@ -37,20 +37,20 @@ use Rattle.checker.proofs.Checked.Laws as checked-laws
 use Rattle.runner.specs.declared.answer.Rejection.{Rejection}
 use Rattle.runner.specs.declared.answer.Told.{Told}
 use Rattle.runner.specs.declared.answer.Reported.{Reported}
-use Rattle.runner.specs.declared.kept.Record.{Record}
-use Rattle.runner.specs.declared.kept.AfterLoad.{AfterLoad}
-use Rattle.runner.specs.declared.kept.AfterNext.{AfterNext}
-use Rattle.runner.specs.declared.kept.AfterReport.{AfterReport}
+use Rattle.runner.specs.declared.calls.Record.{Record}
+use Rattle.runner.specs.declared.calls.AfterLoad.{AfterLoad}
+use Rattle.runner.specs.declared.calls.AfterNext.{AfterNext}
+use Rattle.runner.specs.declared.calls.AfterReport.{AfterReport}
 use Rattle.runner.proofs.answer.Rejection.Laws as rejection-laws
 use Rattle.runner.proofs.answer.Told.Laws as told-laws
 use Rattle.runner.proofs.answer.Reported.Laws as reported-laws
-use Rattle.runner.proofs.kept.Record.Laws as record-laws
-use Rattle.runner.proofs.kept.AfterLoad as after-load-type
-use Rattle.runner.proofs.kept.AfterLoad.Laws as after-load-laws
-use Rattle.runner.proofs.kept.AfterNext as after-next-type
-use Rattle.runner.proofs.kept.AfterNext.Laws as after-next-laws
-use Rattle.runner.proofs.kept.AfterReport as after-report-type
-use Rattle.runner.proofs.kept.AfterReport.Laws as after-report-laws
+use Rattle.runner.proofs.calls.Record.Laws as record-laws
+use Rattle.runner.proofs.calls.AfterLoad as after-load-type
+use Rattle.runner.proofs.calls.AfterLoad.Laws as after-load-laws
+use Rattle.runner.proofs.calls.AfterNext as after-next-type
+use Rattle.runner.proofs.calls.AfterNext.Laws as after-next-laws
+use Rattle.runner.proofs.calls.AfterReport as after-report-type
+use Rattle.runner.proofs.calls.AfterReport.Laws as after-report-laws
 
 -- Of any type with machine values that tell its values apart.
 head-is : {v u : Val} → _≡_ {A = List Val} (v ∷ []) (u ∷ []) → v ≡ u

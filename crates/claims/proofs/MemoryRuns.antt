@@ -26,19 +26,20 @@ use denote.Triple.Bound.{Bound}
 use denote.Triple.Spec.{Spec, tripleOf}
 use Rattle.format.specs.Format.{reading}
 use Rattle.reader.specs.Answers.{answerOf as readOf, withoutValue}
-use Rattle.runner.specs.declared.kept.AfterLoad.{AfterLoad}
+use Rattle.runner.specs.declared.calls.AfterLoad.{AfterLoad}
 use Rattle.runner.specs.Records.{loaded}
 use Rattle.reader.proofs.read as read
-use Rattle.runner.proofs.kept.AfterLoad as after-load-type
-use Rattle.runner.proofs.kept.Record.load as load
-use Rattle.runner.proofs.kept.Record.load.Reads as load-reads
-use Rattle.runner.proofs.kept.Record.load.Met as load-met
-use Rattle.runner.proofs.kept.Record.load.Symbol as load-symbol
+use Rattle.runner.proofs.calls.AfterLoad as after-load-type
+use Rattle.runner.proofs.calls.Record.load as load
+use Rattle.runner.proofs.calls.Record.load.Reads as load-reads
+use Rattle.runner.proofs.calls.Record.load.Met as load-met
+use Rattle.runner.proofs.calls.Record.load.Symbol as load-symbol
 use Rattle.semantics.specs.Verdict.{verified}
 use Rattle.semantics.proofs.MemoryLaws.{memory-length}
 use Rattle.verifier.specs.declared.verdict.Verdict.{Verdict}
 use Rattle.verifier.specs.Answers.{answerOf as verifiedOf}
 use Rattle.verifier.proofs.verdict.Verdict as verdict-type
+use Rattle.verifier.proofs.AnswerLaws.{parts}
 use Rattle.verifier.proofs.verify as verify
 use Rattle.verifier.proofs.verify.Reads as verify-reads
 use Rattle.verifier.proofs.verify.Met as verify-met
@@ -315,7 +316,8 @@ module _ {M : Type 1} (𝓤 : URA M) (H : Heap 𝓤) (𝓜 : Model 𝓤 H) (𝓖
       (sat-weaken 𝓤 H 𝓜 (q .1)
       (via 𝓤 ((T′ ∗ A′ ∗ Z) ∗ X ∗ F) (second-back X (T′ ∗ A′ ∗ Z) F) (monoL 𝓤 (X ∗ F) (writer-back 𝓤 H 𝓜 𝓖 (length old) new b′ o′ (t .2) (t .3)))) first) in
       let third : (q .1 ⊨ X ∗ held b′ o′ new ∗ F) = sat-weaken 𝓤 H 𝓜 (q .1) (second-back (held b′ o′ new) X F) second in
-      (q .0, q .1, q .4, (q .2, q .5, q .6 .0, subst (λ (m : List ℕ). q .1 ⊨ X ∗ held b′ o′ m ∗ F) (q .6 .1) third))))
+      let said = parts (q .2) new (verified sheet budget old) (q .6) in
+      (q .0, q .1, q .4, (q .2, q .5, said .0, subst (λ (m : List ℕ). q .1 ⊨ X ∗ held b′ o′ m ∗ F) (said .1) third))))
 
   -- And every run of it from such a memory does so: the machine ends in one way.
   verify-leaves : (sheet : List ℕ) (b o : ℕ) → length sheet < 2 ^ 63 → (budget : ℕ) → budget < 2 ^ 32 → (old : List ℕ) (b′ o′ : ℕ) → length old < 2 ^ 63

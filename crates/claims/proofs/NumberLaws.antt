@@ -3,7 +3,7 @@ use mathlib.Core.Path.{_≡_, refl, sym, ap, _∙_}
 use mathlib.Core.Bool.{Bool, true, false}
 use lib.Dec.{eqb}
 use Rattle.lists.specs.Lists.{if_then_else_}
-use Rattle.format.specs.Format.{Answer, accepted, refused}
+use Rattle.format.specs.Format.{Answer, gives, refused}
 use Rattle.reader.specs.declared.refusal.Refusal.{Refusal}
 use Rattle.reader.specs.Answers.{numberOf}
 use Rattle.reader.proofs.AnswerLaws.{refusalOf, number-refusal}
@@ -38,9 +38,9 @@ no-thirty Refusal.NoReply = refl
 -- The answers of the verifier and of the checker that have a meaning.
 unfoldable verdictOf : Answer Meant → Verdict
 unfolding if_then_else_
-verdictOf (accepted (valid c)) = Verdict.Valid c
-verdictOf (accepted (invalid c l)) = Verdict.Invalid c l
-verdictOf (accepted (stopped b)) = Verdict.Stopped b
+verdictOf (gives (valid c)) = Verdict.Valid c
+verdictOf (gives (invalid c l)) = Verdict.Invalid c l
+verdictOf (gives (stopped b)) = Verdict.Stopped b
 verdictOf (refused k) = if eqb k 30 then Verdict.ShortMemory else Verdict.Refused (refusalOf k)
 
 verdict-back : (r : Verdict) → verdictOf (verifiedOf r) ≡ r
@@ -53,8 +53,8 @@ verdict-back (Verdict.Refused r) =
     ap (λ (b : Bool). if b then Verdict.ShortMemory else Verdict.Refused (refusalOf (numberOf r))) (no-thirty r) ∙ ap Verdict.Refused (number-refusal r)
 
 unfoldable checkOf : Answer Bool → Checked
-checkOf (accepted true) = Checked.Yes
-checkOf (accepted false) = Checked.No
+checkOf (gives true) = Checked.Yes
+checkOf (gives false) = Checked.No
 checkOf (refused k) = Checked.Refused (refusalOf k)
 
 check-back : (r : Checked) → checkOf (checkedOf r) ≡ r
@@ -72,7 +72,7 @@ check-one r q e = sym (check-back r) ∙ ap checkOf e ∙ check-back q
 
 -- And of `prepare`.
 unfoldable preparationOf : Answer States → Prepared
-preparationOf (accepted start) = Prepared.Ready start
+preparationOf (gives start) = Prepared.Ready start
 preparationOf (refused k) = Prepared.Refused (refusalOf k)
 
 preparation-back : (p : Prepared) → preparationOf (preparedOf p) ≡ p

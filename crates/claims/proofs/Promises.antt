@@ -8,6 +8,7 @@ use contract.Lifetimes.{Lfts}
 use denote.Ref.{now}
 use denote.Triple.Entry.{Args}
 use denote.Triple.Clauses.{Lasts, atExit}
+use Rattle.routine.specs.Memory.{nodeMost}
 use Rattle.states.specs.declared.States.{States}
 use Rattle.format.specs.Format.{reading}
 use Rattle.reader.specs.Answers.{withoutValue}
@@ -30,6 +31,7 @@ use Rattle.progression.proofs.step as step
 use Rattle.progression.proofs.step.Reads as step-reads
 use Rattle.progression.proofs.known as known
 use Rattle.progression.proofs.known.Reads as known-reads
+use Rattle.verifier.proofs.AnswerLaws.{parts}
 use Rattle.verifier.proofs.verify as verify
 use Rattle.verifier.proofs.verify.Reads as verify-reads
 use Rattle.checker.proofs.check as check
@@ -91,7 +93,7 @@ promised = record {
 }
 
 -- An action node where it settles has its place and its action within bounds.
-act-bounds : (node a : ℕ) → Inside (Place.Act node a) → (node < 2048) × (a < 65536)
+act-bounds : (node a : ℕ) → Inside (Place.Act node a) → (node < nodeMost) × (a < 65536)
 unfolding Inside
 act-bounds node a i = i
 
@@ -111,7 +113,7 @@ contracts = record {
   known-contract = λ sets k set r c. c .6 ∙ (λ i. knownBy (c .3 i) (c .5 i) (c .4 i));
   verify-contract = λ bytes budget old r memory c.
       let same : verified (now (c .1 .0)) (c .1 .1 .0) (now (c .1 .1 .1 .0)) ≡ verified bytes budget old = λ i. verified (c .3 i) (c .4 i) (c .5 i) in
-      let l = c .7 in
+      let l = parts _ _ _ (c .7) in
       (l .0 ∙ ap (λ (v : Verified). v .answer) same, sym (c .6) ∙ l .1 ∙ ap (λ (v : Verified). v .memory) same);
   check-contract = λ bytes shown r c. c .5 ∙ (λ i. checked (c .3 i) (c .4 i));
   runner-contracts = runner-contracts;

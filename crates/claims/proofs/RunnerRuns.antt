@@ -23,26 +23,26 @@ use denote.Triple.Clauses.{Lasts, atExit}
 use denote.Triple.Spec.{Spec}
 use Rattle.format.specs.Format.{reading}
 use Rattle.reader.specs.Answers.{answerOf as readOf, withoutValue}
-use Rattle.runner.specs.declared.kept.Record.{Record}
-use Rattle.runner.specs.declared.kept.AfterLoad.{AfterLoad}
-use Rattle.runner.specs.declared.kept.AfterNext.{AfterNext}
-use Rattle.runner.specs.declared.kept.AfterReport.{AfterReport}
+use Rattle.runner.specs.declared.calls.Record.{Record}
+use Rattle.runner.specs.declared.calls.AfterLoad.{AfterLoad}
+use Rattle.runner.specs.declared.calls.AfterNext.{AfterNext}
+use Rattle.runner.specs.declared.calls.AfterReport.{AfterReport}
 use Rattle.runner.specs.Records.{loaded, nextOn, reportOn, recordAfter}
 use Rattle.runner.specs.Answers.{toldOf, reportedOf}
-use Rattle.runner.proofs.kept.Record as record-type
-use Rattle.runner.proofs.kept.Record.Laws as record-laws
-use Rattle.runner.proofs.kept.Record.load as load
-use Rattle.runner.proofs.kept.Record.load.Reads as load-reads
-use Rattle.runner.proofs.kept.Record.load.Met as load-met
-use Rattle.runner.proofs.kept.Record.load.Symbol as load-symbol
-use Rattle.runner.proofs.kept.Record.next as next
-use Rattle.runner.proofs.kept.Record.next.Reads as next-reads
-use Rattle.runner.proofs.kept.Record.next.Met as next-met
-use Rattle.runner.proofs.kept.Record.next.Symbol as next-symbol
-use Rattle.runner.proofs.kept.Record.report as report
-use Rattle.runner.proofs.kept.Record.report.Reads as report-reads
-use Rattle.runner.proofs.kept.Record.report.Met as report-met
-use Rattle.runner.proofs.kept.Record.report.Symbol as report-symbol
+use Rattle.runner.proofs.calls.Record as record-type
+use Rattle.runner.proofs.calls.Record.Laws as record-laws
+use Rattle.runner.proofs.calls.Record.load as load
+use Rattle.runner.proofs.calls.Record.load.Reads as load-reads
+use Rattle.runner.proofs.calls.Record.load.Met as load-met
+use Rattle.runner.proofs.calls.Record.load.Symbol as load-symbol
+use Rattle.runner.proofs.calls.Record.next as next
+use Rattle.runner.proofs.calls.Record.next.Reads as next-reads
+use Rattle.runner.proofs.calls.Record.next.Met as next-met
+use Rattle.runner.proofs.calls.Record.next.Symbol as next-symbol
+use Rattle.runner.proofs.calls.Record.report as report
+use Rattle.runner.proofs.calls.Record.report.Reads as report-reads
+use Rattle.runner.proofs.calls.Record.report.Met as report-met
+use Rattle.runner.proofs.calls.Record.report.Symbol as report-symbol
 use Rattle.runner.specs.Calls.{Runner}
 use Rattle.runner.proofs.ListLaws.{RunnerContracts, Going}
 use Rattle.runner.proofs.Promises.{runner-contracts}

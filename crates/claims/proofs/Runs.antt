@@ -17,6 +17,7 @@ use denote.Ref.{now}
 use denote.Triple.Bound.{Bound}
 use denote.Triple.Clauses.{Lasts, atExit}
 use denote.Triple.Spec.{Spec}
+use Rattle.routine.specs.Memory.{nodeMost}
 use Rattle.states.specs.declared.States.{States}
 use Rattle.format.specs.Format.{reading}
 use Rattle.reader.specs.Answers.{answerOf as readOf, withoutValue}
@@ -159,11 +160,11 @@ module _ {M : Type 1} (𝓤 : URA M) (H : Heap 𝓤) (𝓜 : Model 𝓤 H) (𝓖
       ∥∥₁-elim (settle-does (c .0) .1 r (c .5)) (place-set _ _)
       (λ t. contracts .settle-contract nodes sets set at r (c .0 .0, c .0 .3, t .0, c .1, c .2, c .3, c .4, t .1))
 
-  pub settle-bounds : (nodes sets : List ℕ) (set : States) (at node a : ℕ) → SettleRan nodes sets set at (Place.Act node a) → (node < 2048) × (a < 65536)
+  pub settle-bounds : (nodes sets : List ℕ) (set : States) (at node a : ℕ) → SettleRan nodes sets set at (Place.Act node a) → (node < nodeMost) × (a < 65536)
   settle-bounds nodes sets set at node a c =
-      let told : ∥ ((node < 2048) × (a < 65536)) ∥₁ = ∥∥₁-map (settle-does (c .0) .1 (Place.Act node a) (c .5))
+      let told : ∥ ((node < nodeMost) × (a < 65536)) ∥₁ = ∥∥₁-map (settle-does (c .0) .1 (Place.Act node a) (c .5))
       (λ t. contracts .settle-bounds nodes sets set at node a (c .0 .0, c .0 .3, t .0, c .1, c .2, c .3, c .4, t .1)) in (
-        elim (decLt node 2048) [ yes h ↦ h | no g ↦ absurd (∥∥₁-elim told (λ x y. absurd x) (λ t. g (t .0))) ],
+        elim (decLt node nodeMost) [ yes h ↦ h | no g ↦ absurd (∥∥₁-elim told (λ x y. absurd x) (λ t. g (t .0))) ],
         elim (decLt a 65536) [ yes h ↦ h | no g ↦ absurd (∥∥₁-elim told (λ x y. absurd x) (λ t. g (t .1))) ],
       )
 

@@ -5,27 +5,27 @@ use mathlib.Core.Logic.{_⊎_, inl, inr}
 use mathlib.Core.Bool.{Bool}
 use base.Stored.{Coded, coded-set, codedUnit, codedℕ, codedBool, coded×, coded⊎, codedVia}
 use ghost.Sets.{retract-set}
-use Rattle.format.specs.Format.{Answer, accepted, refused}
+use Rattle.format.specs.Format.{Answer, gives, refused}
 use Rattle.semantics.specs.Verdict.{Verdict as Meant, valid, invalid, stopped}
 use Rattle.semantics.specs.Replies.{Told as Telling, to-do, at-end}
 use Rattle.states.specs.declared.States.{States}
 use Rattle.progression.specs.declared.place.Place.{Place}
 use Rattle.states.proofs.States as states-type
 use Rattle.progression.proofs.place.Place as place-type
-use Rattle.runner.specs.declared.kept.Record.{Record}
-use Rattle.runner.proofs.kept.Record as record-type
+use Rattle.runner.specs.declared.calls.Record.{Record}
+use Rattle.runner.proofs.calls.Record as record-type
 
 -- An answer is a value or a number.
 abbrev parts : {A : Type 0} → Answer A → A ⊎ ℕ
-parts (accepted a) = inl a
+parts (gives a) = inl a
 parts (refused k) = inr k
 
 abbrev joined : {A : Type 0} → A ⊎ ℕ → Answer A
-joined (inl a) = accepted a
+joined (inl a) = gives a
 joined (inr k) = refused k
 
 joined-parts : {A : Type 0} (x : Answer A) → joined (parts x) ≡ x
-joined-parts (accepted a) = refl
+joined-parts (gives a) = refl
 joined-parts (refused k) = refl
 
 answer-set : {A : Type 0} → Coded A → IsSet (Answer A)

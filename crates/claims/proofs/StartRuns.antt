@@ -14,9 +14,9 @@ use prog.AdequacyRun.{startMem}
 use contract.Running.{GhostRules}
 use denote.Laws.{Is}
 use contract.Adequate.{Satisfies, sat-weaken, start-satisfies}
-use Rattle.runner.specs.declared.kept.Record.{Record}
-use Rattle.runner.proofs.kept.Record as record-type
-use Rattle.runner.proofs.kept.Record.Laws as record-laws
+use Rattle.runner.specs.declared.calls.Record.{Record}
+use Rattle.runner.proofs.calls.Record as record-type
+use Rattle.runner.proofs.calls.Record.Laws as record-laws
 use Rattle.claims.specs.Demands.{AllUnder, AllBytes, RecordFits}
 use Rattle.claims.proofs.Memory.{all-fit, Holding}
 use Rattle.claims.proofs.MemoryRuns.{can-read, can-load, can-check, CanVerify}

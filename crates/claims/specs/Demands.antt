@@ -9,29 +9,29 @@ use Rattle.states.specs.declared.States.{States}
 use Rattle.states.specs.Sets.{member, setOf}
 use Rattle.format.specs.Syntax.{Objective, Epistemic, known, not-known, all-of, any-of, Program, end, act, branch, Sheet}
 use Rattle.format.specs.Truth.{holds}
-use Rattle.format.specs.Format.{accepted, refused, mostBytes, mostActs, reading}
+use Rattle.format.specs.Format.{gives, refused, mostBytes, mostActs, reading}
 use Rattle.reader.specs.declared.refusal.Refusal.{Refusal}
 use Rattle.reader.specs.declared.sheet.Acceptance.{Acceptance}
 use Rattle.reader.specs.Answers.{numberOf, answerOf as readOf, withoutValue}
 use Rattle.semantics.specs.Runs.{Entry, History, extended, IsRun, lastState, Holds}
 use Rattle.semantics.specs.Routine.{routine, Follows, isFull, Failing}
-use Rattle.semantics.specs.Verdict.{historyCount, trace, TraceBefore, longestTrace, verified}
+use Rattle.semantics.specs.Verdict.{historyCount, trace, TraceBefore, LongEnough, verified}
 use Rattle.semantics.specs.Checker.{checked}
 use Rattle.routine.specs.declared.sheet.Prepared.{Prepared}
-use Rattle.routine.specs.Memory.{headMost, nodeMost, setMost, setAt}
+use Rattle.routine.specs.Memory.{headMost, nodeMost, setMost, Sized, setAt}
 use Rattle.routine.specs.Tables.{sheetStart}
 use Rattle.progression.specs.declared.place.Place.{Place}
 use Rattle.verifier.specs.declared.verdict.Verdict.{Verdict}
-use Rattle.verifier.specs.Answers.{answerOf as verifiedOf}
+use Rattle.verifier.specs.Answers.{answerOf as verifiedOf, verifiedBy}
 use Rattle.checker.specs.declared.Checked.{Checked}
 use Rattle.checker.specs.Answers.{answerOf as checkedOf}
 use Rattle.runner.specs.declared.answer.Rejection.{Rejection}
 use Rattle.runner.specs.declared.answer.Told.{Told}
 use Rattle.runner.specs.declared.answer.Reported.{Reported}
-use Rattle.runner.specs.declared.kept.Record.{Record}
-use Rattle.runner.specs.declared.kept.AfterLoad.{AfterLoad}
-use Rattle.runner.specs.declared.kept.AfterNext.{AfterNext}
-use Rattle.runner.specs.declared.kept.AfterReport.{AfterReport}
+use Rattle.runner.specs.declared.calls.Record.{Record}
+use Rattle.runner.specs.declared.calls.AfterLoad.{AfterLoad}
+use Rattle.runner.specs.declared.calls.AfterNext.{AfterNext}
+use Rattle.runner.specs.declared.calls.AfterReport.{AfterReport}
 use Rattle.runner.specs.Records.{loaded, nextOn, reportOn, recordAfter}
 use Rattle.runner.specs.Answers.{toldOf, reportedOf}
 use Rattle.runner.specs.Calls.{Event, acceptedIn, Runner, Calls, ListsRun, AfterCalls}
@@ -75,7 +75,7 @@ abbrev pub HeadsFit : List ℕ → Type 0
 HeadsFit heads = (length heads ≡ 3 * headMost) × AllUnder (2 ^ 16) heads
 
 abbrev pub NodesFit : List ℕ → Type 0
-NodesFit nodes = (length nodes ≡ 4 * nodeMost) × AllUnder (2 ^ 16) nodes
+NodesFit nodes = (length nodes ≡ 3 * nodeMost) × AllUnder (2 ^ 16) nodes
 
 abbrev pub SetsFit : List ℕ → Type 0
 SetsFit sets = (length sets ≡ 4 * setMost) × AllUnder (2 ^ 64) sets
@@ -104,15 +104,13 @@ pub record Callable {ℓ} : Type (ℓ + 1) where
   pub can-pass : Record → Type ℓ
 
 module _ {ℓ} (library : Library {ℓ}) where
-  -- The tables of a sheet, made in memory of the right size: so many heads of three numbers, nodes of four and sets of four words.
+  -- The tables of a sheet, made in memory of the lengths that the types fix.
   pub record Prepares (bytes : List ℕ) (sheet : Sheet) (heads nodes sets : List ℕ) (start : States) : Type ℓ where
-    pub read : reading bytes ≡ accepted sheet
+    pub read : reading bytes ≡ gives sheet
     pub heads₀ : List ℕ
     pub nodes₀ : List ℕ
     pub sets₀ : List ℕ
-    pub heads-long : length heads₀ ≡ 3 * headMost
-    pub nodes-long : length nodes₀ ≡ 4 * nodeMost
-    pub sets-long : length sets₀ ≡ 4 * setMost
+    pub sized : Sized heads₀ nodes₀ sets₀
     pub made : library .prepares bytes heads₀ nodes₀ sets₀ (Prepared.Ready start) heads nodes sets
 
   -- The set that calls of `step` make along a history, from the start set on.
@@ -166,7 +164,7 @@ module _ {ℓ} (library : Library {ℓ}) where
     -- answer "invalid" alone).
     pub memory-holds : (bytes : List ℕ) (budget : ℕ) (old : List ℕ) (r : Verdict) (memory : List ℕ) → library .verifies bytes budget old r memory
         → ((memory ≡ old) × ((c l : ℕ) → r ≡ Verdict.Invalid c l → ⊥))
-        ⊎ ((sheet : Sheet) × (h : History) × (run : List ℕ) × (reading bytes ≡ accepted sheet) × Failing sheet h run × (r ≡ Verdict.Invalid (historyCount sheet) (length h))
+        ⊎ ((sheet : Sheet) × (h : History) × (run : List ℕ) × (reading bytes ≡ gives sheet) × Failing sheet h run × (r ≡ Verdict.Invalid (historyCount sheet) (length h))
         × (memory ≡ trace h run ++ drop (length (trace h run)) old) × (length memory ≡ length old))
     -- "the runner's record after a refused call on it is the record before it" ("Next" returns it in any case.)
     pub next-keeps : (r : Record) (t : AfterNext) → library .runner .tells r t → t .kept ≡ r
@@ -174,7 +172,7 @@ module _ {ℓ} (library : Library {ℓ}) where
     -- "with an answer that document 01 fixes": the one that the definitions give, with document 01's numbers and values; so the same call gets the same.
     pub read-fixed : (bytes : List ℕ) (a : Acceptance) → library .reads bytes a → readOf a ≡ withoutValue (reading bytes)
     pub verify-fixed : (bytes : List ℕ) (budget : ℕ) (old : List ℕ) (r : Verdict) (memory : List ℕ) → library .verifies bytes budget old r memory
-        → (verifiedOf r ≡ verified bytes budget old .answer) × (memory ≡ verified bytes budget old .memory)
+        → verifiedBy r memory ≡ verified bytes budget old
     pub check-fixed : (bytes shown : List ℕ) (a : Checked) → library .checks bytes shown a → checkedOf a ≡ checked bytes shown
     pub load-fixed : (bytes : List ℕ) (l : AfterLoad) → library .runner .loads bytes l → (readOf (l .answer) ≡ withoutValue (reading bytes)) × (l .kept ≡ loaded bytes)
     pub next-fixed : (r : Record) (t : AfterNext) → library .runner .tells r t → toldOf (t .answer) ≡ nextOn r
@@ -187,25 +185,25 @@ module _ {ℓ} (library : Library {ℓ}) where
     pub reported-one : (a b : Reported) → reportedOf a ≡ reportedOf b → a ≡ b
     -- 30 for "trace memory under 129 bytes (before anything else)", and for nothing else.
     pub short-exactly : (bytes : List ℕ) (budget : ℕ) (old : List ℕ) (r : Verdict) (memory : List ℕ) → library .verifies bytes budget old r memory
-        → (r ≡ Verdict.ShortMemory) ↔ (length old < longestTrace)
+        → (r ≡ Verdict.ShortMemory) ↔ (LongEnough old → ⊥)
 
   -- Demand 2.
   pub record Demand2 : Type ℓ where
     -- "A sheet is read", "as document 01 states": the reader accepts exactly the sheets in its form, and refuses every other with its number.
-    pub read-accepts : (bytes : List ℕ) (a : Acceptance) → library .reads bytes a → (a ≡ Acceptance.Accepted) ↔ ((sheet : Sheet) × (reading bytes ≡ accepted sheet))
+    pub read-accepts : (bytes : List ℕ) (a : Acceptance) → library .reads bytes a → (a ≡ Acceptance.Accepted) ↔ ((sheet : Sheet) × (reading bytes ≡ gives sheet))
     pub read-refuses : (bytes : List ℕ) (a : Acceptance) → library .reads bytes a → (r : Refusal) → (a ≡ Acceptance.Refused r) ↔ (reading bytes ≡ refused (numberOf r))
     -- "a sheet outside that form is refused, and no other is": so do loading, the verifier, where the memory is long enough, and the trace checker.
     pub load-refuses : (bytes : List ℕ) (l : AfterLoad) → library .runner .loads bytes l → (r : Refusal) → (l .answer ≡ Acceptance.Refused r) ↔ (reading bytes ≡ refused (numberOf r))
-    pub verify-refuses : (bytes : List ℕ) (budget : ℕ) (old : List ℕ) (a : Verdict) (memory : List ℕ) → library .verifies bytes budget old a memory → longestTrace ≤ length old
+    pub verify-refuses : (bytes : List ℕ) (budget : ℕ) (old : List ℕ) (a : Verdict) (memory : List ℕ) → library .verifies bytes budget old a memory → LongEnough old
         → (r : Refusal) → (a ≡ Verdict.Refused r) ↔ (reading bytes ≡ refused (numberOf r))
     pub check-refuses : (bytes shown : List ℕ) (a : Checked) → library .checks bytes shown a → (r : Refusal) → (a ≡ Checked.Refused r) ↔ (reading bytes ≡ refused (numberOf r))
     -- The tables are made of every accepted sheet, and of no other.
     pub prepare-accepts : (bytes heads nodes sets : List ℕ) (p : Prepared) (heads′ nodes′ sets′ : List ℕ) → library .prepares bytes heads nodes sets p heads′ nodes′ sets′
-        → (sheet : Sheet) → reading bytes ≡ accepted sheet → p ≡ Prepared.Ready (sheetStart sheet)
+        → (sheet : Sheet) → reading bytes ≡ gives sheet → p ≡ Prepared.Ready (sheetStart sheet)
     pub prepare-refuses : (bytes heads nodes sets : List ℕ) (p : Prepared) (heads′ nodes′ sets′ : List ℕ) → library .prepares bytes heads nodes sets p heads′ nodes′ sets′
         → (r : Refusal) → (p ≡ Prepared.Refused r) ↔ (reading bytes ≡ refused (numberOf r))
     -- The checker "says yes if and only if the trace is a full run following the routine whose history fails the goal".
-    pub check-yes : (bytes : List ℕ) (sheet : Sheet) → reading bytes ≡ accepted sheet → (shown : List ℕ) (a : Checked) → library .checks bytes shown a
+    pub check-yes : (bytes : List ℕ) (sheet : Sheet) → reading bytes ≡ gives sheet → (shown : List ℕ) (a : Checked) → library .checks bytes shown a
         → (a ≡ Checked.Yes) ↔ ((h : History) × (run : List ℕ) × Failing sheet h run × (shown ≡ trace h run))
     -- Its "steps are worked out": the set that is carried along a history has exactly the last states of the runs with that history.
     pub steps-right : (bytes : List ℕ) (sheet : Sheet) (heads nodes sets : List ℕ) (start : States) → Prepares bytes sheet heads nodes sets start
@@ -224,8 +222,8 @@ module _ {ℓ} (library : Library {ℓ}) where
   -- (The budget is supposed where a sentence needs it.)
   module _ (bytes : List ℕ) (sheet : Sheet) (budget : ℕ) (old : List ℕ) (r : Verdict) (memory : List ℕ) where
     pub record Supposed : Type ℓ where
-      pub read : reading bytes ≡ accepted sheet
-      pub enough : longestTrace ≤ length old
+      pub read : reading bytes ≡ gives sheet
+      pub enough : LongEnough old
       pub call : library .verifies bytes budget old r memory
 
     pub record Demand3Verdict : Type ℓ where
@@ -251,7 +249,7 @@ module _ {ℓ} (library : Library {ℓ}) where
     pub verdict : (bytes : List ℕ) (sheet : Sheet) (budget : ℕ) (old : List ℕ) (r : Verdict) (memory : List ℕ) → Supposed bytes sheet budget old r memory
         → Demand3Verdict bytes sheet budget old r memory
     -- "Take any list of "Next" and "Report" calls, refused ones included, from a record freshly loaded with the sheet." What holds after it: runner/specs/Calls.antt.
-    pub lists : (bytes : List ℕ) (sheet : Sheet) → reading bytes ≡ accepted sheet → (l : AfterLoad) → library .runner .loads bytes l
+    pub lists : (bytes : List ℕ) (sheet : Sheet) → reading bytes ≡ gives sheet → (l : AfterLoad) → library .runner .loads bytes l
         → (es : List Event) (q : Record) → Calls (library .runner) (l .kept) es q → AfterCalls (library .runner) sheet (acceptedIn es) q
     -- "The verdict is "valid" exactly when "Next" says after no such list that the goal fails."
     pub valid-told : (bytes : List ℕ) (sheet : Sheet) (budget : ℕ) (old : List ℕ) (r : Verdict) (memory : List ℕ) → Supposed bytes sheet budget old r memory

@@ -4,18 +4,18 @@ use mathlib.Core.List.{List, [], _∷_}
 use mathlib.Core.Bool.{Bool, true, false}
 use lib.ListN.{getD}
 use Rattle.format.specs.Syntax.{Sheet}
-use Rattle.format.specs.Format.{Answer, accepted, refused}
+use Rattle.format.specs.Format.{Answer, gives, refused}
 use Rattle.semantics.specs.Verdict.{Verdict, valid, invalid, stopped}
-use Rattle.routine.specs.Memory.{write, words}
+use Rattle.states.specs.Sets.{words}
 use Rattle.routine.specs.Tables.{sheetStart}
 use Rattle.progression.specs.declared.place.Place.{Place}
 use Rattle.semantics.specs.Replies.{Told, to-do, at-end}
-use Rattle.runner.specs.declared.kept.Record.{Record}
+use Rattle.runner.specs.declared.calls.Record.{Record}
 
--- 0 where something is accepted, else the number of the refusal.
-unfoldable pub numberFor : {A : Type 0} → Answer A → ℕ
-numberFor (accepted a) = 0
-numberFor (refused r) = r
+-- A memory after a call: the numbers of what it gives; a refusal leaves it as it was.
+unfoldable pub memoryAfter : {A : Type 0} (numbers : A → List ℕ) → Answer A → (old : List ℕ) → List ℕ
+memoryAfter numbers (gives a) old = numbers a
+memoryAfter numbers (refused r) old = old
 
 -- The words of a sheet's start set.
 unfoldable pub startWords : Sheet → List ℕ
@@ -34,16 +34,10 @@ verdictNumbers (valid c) = 0 ∷ c ∷ 0 ∷ []
 verdictNumbers (invalid c l) = 1 ∷ c ∷ l ∷ []
 verdictNumbers (stopped b) = 2 ∷ b ∷ 0 ∷ []
 
--- The memory of a verdict after a call; a refusal leaves it as it was.
-unfoldable pub verdictMemory : Answer Verdict → (old : List ℕ) → List ℕ
-unfolding verdictNumbers write
-verdictMemory (accepted v) old = write old 0 (verdictNumbers v)
-verdictMemory (refused r) old = old
-
 -- The checker's answer: 0 for yes, 255 for no, else the number of the refusal.
 unfoldable pub checkedNumber : Answer Bool → ℕ
-checkedNumber (accepted true) = 0
-checkedNumber (accepted false) = 255
+checkedNumber (gives true) = 0
+checkedNumber (gives false) = 255
 checkedNumber (refused r) = r
 
 -- The record that lent memory holds: a sheet, replies, and the lengths of both.
@@ -59,9 +53,3 @@ unfoldable pub toldNumbers : Told → List ℕ
 toldNumbers (to-do action) = 0 ∷ action ∷ []
 toldNumbers (at-end true) = 1 ∷ 1 ∷ []
 toldNumbers (at-end false) = 1 ∷ 0 ∷ []
-
--- The memory of what is told after a call; a refusal leaves it as it was.
-unfoldable pub toldMemory : Answer Told → (old : List ℕ) → List ℕ
-unfolding toldNumbers
-toldMemory (accepted t) old = toldNumbers t
-toldMemory (refused r) old = old

@@ -2,6 +2,7 @@
 // an array of fixed length is a pointer to its first element.
 use checker::Checked;
 use checker::check;
+use checker::check_in;
 use printing::LINES;
 use printing::print;
 use progression::Place;
@@ -14,27 +15,30 @@ use routine::Prepared;
 use routine::SET_WORDS;
 use routine::prepare;
 use runner::Record;
+use runner::Rejection;
 use runner::Reported;
 use runner::Told;
 use states::States;
+use verifier::MEMO_WORDS;
 use verifier::Verdict;
 use verifier::verify;
+use verifier::verify_in;
 ghost use mathlib.Core.Path.{_≡_};
-ghost use mathlib.Core.List.{[], _∷_};
 ghost use lib.ListN.{length};
 ghost use Rattle.format.specs.Format.{reading};
-ghost use Rattle.reader.specs.Answers.{answerOf};
-ghost use Rattle.semantics.specs.Verdict.{verified};
+ghost use Rattle.reader.specs.Answers.{answerOf, numberFor};
+ghost use Rattle.semantics.specs.Verdict.{admitted, verified};
 ghost use Rattle.semantics.specs.Checker.{checked};
 ghost use Rattle.semantics.specs.Printing.{printed};
-ghost use Rattle.routine.specs.Memory.{write, words, setAt};
+ghost use Rattle.states.specs.Sets.{words, ofWords};
+ghost use Rattle.routine.specs.Memory.{write, Sized};
 ghost use Rattle.routine.specs.Tables.{prepared as preparedBy, sheetHeads, nodeCells, setWords};
 ghost use Rattle.progression.specs.Machine.{stepped, settled};
-ghost use Rattle.runner.specs.Records.{loaded, nextOn, reportOn, recordAfter};
-ghost use Rattle.exports.specs.Numbers.{numberFor, startWords, placeNumber, verdictMemory, checkedNumber, lentRecord, lengthsOf, toldMemory};
-
-// The words of a set of states.
-const WORDS: usize = 4;
+ghost use Rattle.verifier.specs.Answers.{answerOf as verdictOf, cleared};
+ghost use Rattle.checker.specs.Answers.{answerOf as checkedOf};
+ghost use Rattle.runner.specs.Records.{loaded, sheetIn, nextOn, reportOn, recordAfter};
+ghost use Rattle.runner.specs.Answers.{toldOf, reportedOf};
+ghost use Rattle.exports.specs.Numbers.{memoryAfter, startWords, placeNumber, verdictNumbers, checkedNumber, lentRecord, lengthsOf, toldNumbers};
 
 // The reader's answer as a number.
 fn answer_number(answer: Acceptance) -> u8
@@ -54,28 +58,6 @@ pub extern "C" fn recovery_read(bytes: &[u8]) -> u8
     answer_number(reader::read(bytes))
 }
 
-// The set whose words a memory holds.
-fn lent_set(set: &[u64; WORDS]) -> States
-    ensures { λ r. ⌜ r ≡ setAt (now (set .entry)) 0 ⌝ }
-{
-    States {
-        w0: set[0],
-        w1: set[1],
-        w2: set[2],
-        w3: set[3],
-    }
-}
-
-// Writes the words of a set.
-fn put_words(memory: &mut [u64; WORDS], set: States)
-    ensures { λ r. ⌜ now (memory .exit) ≡ write (now (memory .entry)) 0 (words set) ⌝ }
-{
-    memory[0] = set.w0;
-    memory[1] = set.w1;
-    memory[2] = set.w2;
-    memory[3] = set.w3;
-}
-
 // Writes the tables of an accepted sheet and the words of its start set, and gives 0. For a refused sheet it gives the
 // number of the refusal, and every memory is left as it was.
 #[no_mangle]
@@ -84,14 +66,14 @@ pub extern "C" fn recovery_prepare(
     heads: &mut [u16; HEAD_CELLS],
     nodes: &mut [u16; NODE_CELLS],
     sets: &mut [u64; SET_WORDS],
-    start: &mut [u64; WORDS],
+    start: &mut [u64; States::WORDS],
 ) -> u8
-    ensures { λ r. ⌜ (r ≡ numberFor (reading (now (bytes .entry)))) × (now (heads .exit) ≡ preparedBy sheetHeads (reading (now (bytes .entry))) (now (heads .entry))) × (now (nodes .exit) ≡ preparedBy nodeCells (reading (now (bytes .entry))) (now (nodes .entry))) × (now (sets .exit) ≡ preparedBy setWords (reading (now (bytes .entry))) (now (sets .entry))) × (now (start .exit) ≡ preparedBy startWords (reading (now (bytes .entry))) (now (start .entry))) ⌝ }
+    ensures { λ r. ⌜ (r ≡ numberFor (reading (now (bytes .entry)))) × (now (heads .exit) ≡ preparedBy sheetHeads (reading (now (bytes .entry))) (now (heads .entry))) × (now (nodes .exit) ≡ preparedBy nodeCells (reading (now (bytes .entry))) (now (nodes .entry))) × (now (sets .exit) ≡ preparedBy setWords (reading (now (bytes .entry))) (now (sets .entry))) × (now (start .exit) ≡ memoryAfter startWords (reading (now (bytes .entry))) (now (start .entry))) ⌝ }
 {
     match prepare(bytes, heads, nodes, sets) {
         Prepared::Refused(r) => reader::number(r),
         Prepared::Ready(set) => {
-            put_words(start, set);
+            *start = set.words();
             0
         }
     }
@@ -102,15 +84,15 @@ pub extern "C" fn recovery_prepare(
 pub extern "C" fn recovery_step(
     heads: &[u16; HEAD_CELLS],
     sets: &[u64; SET_WORDS],
-    set: &mut [u64; WORDS],
+    set: &mut [u64; States::WORDS],
     action: usize,
     reply: usize,
 )
-    ensures { λ r. ⌜ now (set .exit) ≡ write (now (set .entry)) 0 (words (stepped (now (heads .entry)) (now (sets .entry)) (setAt (now (set .entry)) 0) action reply)) ⌝ }
+    ensures { λ r. ⌜ now (set .exit) ≡ words (stepped (now (heads .entry)) (now (sets .entry)) (ofWords (now (set .entry))) action reply) ⌝ }
 {
-    let before = lent_set(set);
+    let before = States::of_words(set);
     let after = step(heads, sets, before, action, reply);
-    put_words(set, after);
+    *set = after.words();
 }
 
 // Where the program settles from node `at` on: 0 for an end at which the goal fails, 1 for an end at which it holds, else
@@ -119,24 +101,34 @@ pub extern "C" fn recovery_step(
 pub extern "C" fn recovery_settle(
     nodes: &[u16; NODE_CELLS],
     sets: &[u64; SET_WORDS],
-    set: &[u64; WORDS],
+    set: &[u64; States::WORDS],
     at: usize,
 ) -> u64
-    ensures { λ r. ⌜ r ≡ placeNumber (settled (now (nodes .entry)) (now (sets .entry)) (setAt (now (set .entry)) 0) at) ⌝ }
+    ensures { λ r. ⌜ r ≡ placeNumber (settled (now (nodes .entry)) (now (sets .entry)) (ofWords (now (set .entry))) at) ⌝ }
 {
-    match settle(nodes, sets, lent_set(set), at) {
+    match settle(nodes, sets, States::of_words(set), at) {
         Place::End(holds) => { if holds { 1 } else { 0 } }
         Place::Act(node, action) => 2 + 65536 * (node as u64) + (action as u64),
     }
 }
 
-// Writes the three numbers of a verdict.
-fn put_verdict(verdict: &mut [u64; 3], kind: u64, count: u64, length: u64)
-    ensures { λ r. ⌜ now (verdict .exit) ≡ write (now (verdict .entry)) 0 (kind ∷ count ∷ length ∷ []) ⌝ }
+// Writes a verdict as three numbers. A refusal leaves the memory as it was.
+fn put_verdict(memory: &mut [u64; 3], answer: Verdict)
+    ensures { λ r. ⌜ now (memory .exit) ≡ memoryAfter verdictNumbers (verdictOf answer) (now (memory .entry)) ⌝ }
 {
-    verdict[0] = kind;
-    verdict[1] = count;
-    verdict[2] = length;
+    match answer {
+        Verdict::Valid(c) => {
+            *memory = [0, c as u64, 0];
+        }
+        Verdict::Invalid(c, l) => {
+            *memory = [1, c as u64, l as u64];
+        }
+        Verdict::Stopped(b) => {
+            *memory = [2, b as u64, 0];
+        }
+        Verdict::ShortMemory => {}
+        Verdict::Refused(r) => {}
+    }
 }
 
 // Verifies a sheet with a budget and gives 0; the trace memory then begins with the least failing trace if the verdict is
@@ -150,23 +142,41 @@ pub extern "C" fn recovery_verify(
     trace: &mut [u8],
     verdict: &mut [u64; 3],
 ) -> u8
-    ensures { λ r. ⌜ (r ≡ numberFor (verified (now (bytes .entry)) budget (now (trace .entry)) .answer)) × (now (trace .exit) ≡ verified (now (bytes .entry)) budget (now (trace .entry)) .memory) × (now (verdict .exit) ≡ verdictMemory (verified (now (bytes .entry)) budget (now (trace .entry)) .answer) (now (verdict .entry))) ⌝ }
+    ensures { λ r. ⌜ (r ≡ numberFor (verified (now (bytes .entry)) budget (now (trace .entry)) .answer)) × (now (trace .exit) ≡ verified (now (bytes .entry)) budget (now (trace .entry)) .memory) × (now (verdict .exit) ≡ memoryAfter verdictNumbers (verified (now (bytes .entry)) budget (now (trace .entry)) .answer) (now (verdict .entry))) ⌝ }
 {
-    match verify(bytes, budget, trace) {
-        Verdict::Valid(c) => {
-            put_verdict(verdict, 0, c as u64, 0);
-            0
-        }
-        Verdict::Invalid(c, l) => {
-            put_verdict(verdict, 1, c as u64, l as u64);
-            0
-        }
-        Verdict::Stopped(b) => {
-            put_verdict(verdict, 2, b as u64, 0);
-            0
-        }
-        Verdict::ShortMemory => 30,
-        Verdict::Refused(r) => reader::number(r),
+    let answer = verify(bytes, budget, trace);
+    put_verdict(verdict, answer);
+    verifier::number(answer)
+}
+
+// The same in lent tables and a lent memo, whatever they hold: for callers who count their stack, or who make many calls.
+// The tables are then those of the sheet, and the memo is cleared; a refusal leaves them as they were.
+#[no_mangle]
+pub extern "C" fn recovery_verify_in(
+    bytes: &[u8],
+    budget: u32,
+    trace: &mut [u8],
+    verdict: &mut [u64; 3],
+    heads: &mut [u16; HEAD_CELLS],
+    nodes: &mut [u16; NODE_CELLS],
+    sets: &mut [u64; SET_WORDS],
+    memo: &mut [u64; MEMO_WORDS],
+) -> u8
+    ensures { λ r. ⌜ (Sized (now (heads .entry)) (now (nodes .entry)) (now (sets .entry)) → (r ≡ numberFor (verified (now (bytes .entry)) budget (now (trace .entry)) .answer)) × (now (trace .exit) ≡ verified (now (bytes .entry)) budget (now (trace .entry)) .memory) × (now (verdict .exit) ≡ memoryAfter verdictNumbers (verified (now (bytes .entry)) budget (now (trace .entry)) .answer) (now (verdict .entry)))) × (now (heads .exit) ≡ preparedBy sheetHeads (admitted (now (bytes .entry)) (now (trace .entry))) (now (heads .entry))) × (now (nodes .exit) ≡ preparedBy nodeCells (admitted (now (bytes .entry)) (now (trace .entry))) (now (nodes .entry))) × (now (sets .exit) ≡ preparedBy setWords (admitted (now (bytes .entry)) (now (trace .entry))) (now (sets .entry))) × (now (memo .exit) ≡ cleared (admitted (now (bytes .entry)) (now (trace .entry))) (now (memo .entry))) ⌝ }
+{
+    let answer = verify_in(bytes, budget, trace, heads, nodes, sets, memo);
+    put_verdict(verdict, answer);
+    verifier::number(answer)
+}
+
+// The checker's answer as a number.
+fn checked_number(answer: Checked) -> u8
+    ensures { λ r. ⌜ r ≡ checkedNumber (checkedOf answer) ⌝ }
+{
+    match answer {
+        Checked::Yes => 0,
+        Checked::No => 255,
+        Checked::Refused(r) => reader::number(r),
     }
 }
 
@@ -175,11 +185,21 @@ pub extern "C" fn recovery_verify(
 pub extern "C" fn recovery_check(bytes: &[u8], trace: &[u8]) -> u8
     ensures { λ r. ⌜ r ≡ checkedNumber (checked (now (bytes .entry)) (now (trace .entry))) ⌝ }
 {
-    match check(bytes, trace) {
-        Checked::Yes => 0,
-        Checked::No => 255,
-        Checked::Refused(r) => reader::number(r),
-    }
+    checked_number(check(bytes, trace))
+}
+
+// The same in lent tables, whatever they hold. They are then those of the sheet; a refusal leaves them as they were.
+#[no_mangle]
+pub extern "C" fn recovery_check_in(
+    bytes: &[u8],
+    trace: &[u8],
+    heads: &mut [u16; HEAD_CELLS],
+    nodes: &mut [u16; NODE_CELLS],
+    sets: &mut [u64; SET_WORDS],
+) -> u8
+    ensures { λ r. ⌜ (Sized (now (heads .entry)) (now (nodes .entry)) (now (sets .entry)) → r ≡ checkedNumber (checked (now (bytes .entry)) (now (trace .entry)))) × (now (heads .exit) ≡ preparedBy sheetHeads (reading (now (bytes .entry))) (now (heads .entry))) × (now (nodes .exit) ≡ preparedBy nodeCells (reading (now (bytes .entry))) (now (nodes .entry))) × (now (sets .exit) ≡ preparedBy setWords (reading (now (bytes .entry))) (now (sets .entry))) ⌝ }
+{
+    checked_number(check_in(bytes, trace, heads, nodes, sets))
 }
 
 // Writes what planverify prints for a sheet from the first byte on, and gives its length.
@@ -206,6 +226,15 @@ fn lent_record(
     }
 }
 
+// Writes the replies of a record and its lengths.
+fn put_replies(kept: Record, replies: &mut [u8; Record::REPLIES], lengths: &mut [usize; 2])
+    ensures { λ r. ⌜ (now (replies .exit) ≡ kept .replies) × (now (lengths .exit) ≡ lengthsOf kept) ⌝ }
+{
+    let kept_replies = kept.replies;
+    *replies = kept_replies;
+    *lengths = [kept.len, kept.count];
+}
+
 // Writes the record of a sheet with no replies and gives 0. For a refused sheet it writes the record of zeros and gives
 // the number of the refusal. The lengths are those of the sheet and of the replies.
 #[no_mangle]
@@ -220,30 +249,40 @@ pub extern "C" fn recovery_load(
     let after = Record::load(bytes);
     let kept = after.kept;
     let kept_sheet = kept.sheet;
-    let kept_replies = kept.replies;
     *sheet = kept_sheet;
-    *replies = kept_replies;
-    *lengths = [kept.len, kept.count];
+    put_replies(kept, replies, lengths);
     let answer = after.answer;
     answer_number(answer)
 }
 
-// Tells what to do by two numbers and gives 0: 0 and the action, or at the end 1, and 1 if the goal holds, else 0. For a
-// bad record it gives 31, and the two numbers are left as they were.
+// The same, and the tables of the sheet are written too, as `recovery_prepare` does it.
 #[no_mangle]
-pub extern "C" fn recovery_next(
-    sheet: &[u8; Record::SHEET],
-    replies: &[u8; Record::REPLIES],
-    lengths: &[usize; 2],
-    told: &mut [usize; 2],
+pub extern "C" fn recovery_load_in(
+    bytes: &[u8],
+    sheet: &mut [u8; Record::SHEET],
+    replies: &mut [u8; Record::REPLIES],
+    lengths: &mut [usize; 2],
+    heads: &mut [u16; HEAD_CELLS],
+    nodes: &mut [u16; NODE_CELLS],
+    sets: &mut [u64; SET_WORDS],
 ) -> u8
-    ensures { λ r. ⌜ (r ≡ numberFor (nextOn (lentRecord (now (sheet .entry)) (now (replies .entry)) (now (lengths .entry))))) × (now (told .exit) ≡ toldMemory (nextOn (lentRecord (now (sheet .entry)) (now (replies .entry)) (now (lengths .entry)))) (now (told .entry))) ⌝ }
+    ensures { λ r. ⌜ (r ≡ numberFor (reading (now (bytes .entry)))) × (now (sheet .exit) ≡ loaded (now (bytes .entry)) .sheet) × (now (replies .exit) ≡ loaded (now (bytes .entry)) .replies) × (now (lengths .exit) ≡ lengthsOf (loaded (now (bytes .entry)))) × (now (heads .exit) ≡ preparedBy sheetHeads (reading (now (bytes .entry))) (now (heads .entry))) × (now (nodes .exit) ≡ preparedBy nodeCells (reading (now (bytes .entry))) (now (nodes .entry))) × (now (sets .exit) ≡ preparedBy setWords (reading (now (bytes .entry))) (now (sets .entry))) ⌝ }
 {
-    let record = lent_record(sheet, replies, lengths);
-    let after = record.next();
+    let after = Record::load_in(bytes, heads, nodes, sets);
+    let kept = after.kept;
+    let kept_sheet = kept.sheet;
+    *sheet = kept_sheet;
+    put_replies(kept, replies, lengths);
     let answer = after.answer;
+    answer_number(answer)
+}
+
+// Writes what is told and gives 0, or gives the number of the refusal.
+fn put_told(told: &mut [usize; 2], answer: Told) -> u8
+    ensures { λ r. ⌜ (r ≡ numberFor (toldOf answer)) × (now (told .exit) ≡ memoryAfter toldNumbers (toldOf answer) (now (told .entry))) ⌝ }
+{
     match answer {
-        Told::BadRecord => 31,
+        Told::BadRecord => runner::number(Rejection::BadRecord),
         Told::Act(action) => {
             *told = [0, action];
             0
@@ -256,6 +295,52 @@ pub extern "C" fn recovery_next(
             }
             0
         }
+    }
+}
+
+// Tells what to do by two numbers and gives 0: 0 and the action, or at the end 1, and 1 if the goal holds, else 0. For a
+// bad record it gives 31, and the two numbers are left as they were.
+#[no_mangle]
+pub extern "C" fn recovery_next(
+    sheet: &[u8; Record::SHEET],
+    replies: &[u8; Record::REPLIES],
+    lengths: &[usize; 2],
+    told: &mut [usize; 2],
+) -> u8
+    ensures { λ r. ⌜ (r ≡ numberFor (nextOn (lentRecord (now (sheet .entry)) (now (replies .entry)) (now (lengths .entry))))) × (now (told .exit) ≡ memoryAfter toldNumbers (nextOn (lentRecord (now (sheet .entry)) (now (replies .entry)) (now (lengths .entry)))) (now (told .entry))) ⌝ }
+{
+    let record = lent_record(sheet, replies, lengths);
+    let after = record.next();
+    let answer = after.answer;
+    put_told(told, answer)
+}
+
+// The same in lent tables, which then hold those of the record's sheet; they are left as they were where it is refused.
+#[no_mangle]
+pub extern "C" fn recovery_next_in(
+    sheet: &[u8; Record::SHEET],
+    replies: &[u8; Record::REPLIES],
+    lengths: &[usize; 2],
+    told: &mut [usize; 2],
+    heads: &mut [u16; HEAD_CELLS],
+    nodes: &mut [u16; NODE_CELLS],
+    sets: &mut [u64; SET_WORDS],
+) -> u8
+    ensures { λ r. ⌜ (Sized (now (heads .entry)) (now (nodes .entry)) (now (sets .entry)) → (r ≡ numberFor (nextOn (lentRecord (now (sheet .entry)) (now (replies .entry)) (now (lengths .entry))))) × (now (told .exit) ≡ memoryAfter toldNumbers (nextOn (lentRecord (now (sheet .entry)) (now (replies .entry)) (now (lengths .entry)))) (now (told .entry)))) × (now (heads .exit) ≡ preparedBy sheetHeads (sheetIn (lentRecord (now (sheet .entry)) (now (replies .entry)) (now (lengths .entry)))) (now (heads .entry))) × (now (nodes .exit) ≡ preparedBy nodeCells (sheetIn (lentRecord (now (sheet .entry)) (now (replies .entry)) (now (lengths .entry)))) (now (nodes .entry))) × (now (sets .exit) ≡ preparedBy setWords (sheetIn (lentRecord (now (sheet .entry)) (now (replies .entry)) (now (lengths .entry)))) (now (sets .entry))) ⌝ }
+{
+    let record = lent_record(sheet, replies, lengths);
+    let after = record.next_in(heads, nodes, sets);
+    let answer = after.answer;
+    put_told(told, answer)
+}
+
+// The number of the answer to a report.
+fn report_number(answer: Reported) -> u8
+    ensures { λ r. ⌜ r ≡ numberFor (reportedOf answer) ⌝ }
+{
+    match answer {
+        Reported::Accepted => 0,
+        Reported::Refused(why) => runner::number(why),
     }
 }
 
@@ -272,12 +357,28 @@ pub extern "C" fn recovery_report(
     let record = lent_record(sheet, replies, lengths);
     let after = record.report(reply);
     let kept = after.kept;
-    let kept_replies = kept.replies;
-    *replies = kept_replies;
-    *lengths = [kept.len, kept.count];
+    put_replies(kept, replies, lengths);
     let answer = after.answer;
-    match answer {
-        Reported::Accepted => 0,
-        Reported::Refused(r) => runner::number(r),
-    }
+    report_number(answer)
+}
+
+// The same in lent tables, which then hold those of the record's sheet; they are left as they were where it is refused.
+#[no_mangle]
+pub extern "C" fn recovery_report_in(
+    sheet: &[u8; Record::SHEET],
+    replies: &mut [u8; Record::REPLIES],
+    lengths: &mut [usize; 2],
+    reply: u8,
+    heads: &mut [u16; HEAD_CELLS],
+    nodes: &mut [u16; NODE_CELLS],
+    sets: &mut [u64; SET_WORDS],
+) -> u8
+    ensures { λ r. ⌜ (Sized (now (heads .entry)) (now (nodes .entry)) (now (sets .entry)) → (r ≡ numberFor (reportOn (lentRecord (now (sheet .entry)) (now (replies .entry)) (now (lengths .entry))) reply)) × (now (replies .exit) ≡ recordAfter (lentRecord (now (sheet .entry)) (now (replies .entry)) (now (lengths .entry))) reply .replies) × (now (lengths .exit) ≡ lengthsOf (recordAfter (lentRecord (now (sheet .entry)) (now (replies .entry)) (now (lengths .entry))) reply))) × (now (heads .exit) ≡ preparedBy sheetHeads (sheetIn (lentRecord (now (sheet .entry)) (now (replies .entry)) (now (lengths .entry)))) (now (heads .entry))) × (now (nodes .exit) ≡ preparedBy nodeCells (sheetIn (lentRecord (now (sheet .entry)) (now (replies .entry)) (now (lengths .entry)))) (now (nodes .entry))) × (now (sets .exit) ≡ preparedBy setWords (sheetIn (lentRecord (now (sheet .entry)) (now (replies .entry)) (now (lengths .entry)))) (now (sets .entry))) ⌝ }
+{
+    let record = lent_record(sheet, replies, lengths);
+    let after = record.report_in(reply, heads, nodes, sets);
+    let kept = after.kept;
+    put_replies(kept, replies, lengths);
+    let answer = after.answer;
+    report_number(answer)
 }

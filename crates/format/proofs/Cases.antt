@@ -8,7 +8,7 @@ use lib.ListN.{replicate}
 use lib.Dec.{eqb}
 use Rattle.format.specs.Syntax.{top, fact, negation, known, any-of, end, act, probe, Sheet}
 use Rattle.format.specs.Truth.{moves}
-use Rattle.format.specs.Format.{Answer, accepted, refused, leadsOn, unless, actionFaults, readingBy, reading}
+use Rattle.format.specs.Format.{Answer, gives, refused, leadsOn, unless, actionFaults, readingBy, reading}
 
 -- A row: the bytes, and the number of their refusal.
 pub record Row : Type 0 where
@@ -82,7 +82,7 @@ abbrev pub sample1 : List ℕ
 sample1 = 0x11 ∷ 0x0C ∷ 0x90 ∷ 0x88 ∷ 0x1C ∷ 0x40 ∷ 0x88 ∷ 0x20 ∷ 0x00 ∷ []
 
 pub accepted-holds : reading sample1
-    ≡ accepted (record {
+    ≡ gives (record {
       facts = 1;
       actions = probe (fact 0 ∷ negation (fact 0) ∷ []) ∷ [];
       start = top;
@@ -97,7 +97,7 @@ abbrev pub ofEdition0 : List ℕ → Answer Sheet
 ofEdition0 = readingBy (λ edition. eqb edition 0) (λ space a. unless (leadsOn space (moves a)) 14)
 
 pub other-holds : ofEdition0 (0x01 ∷ 0x0C ∷ 0x50 ∷ 0x21 ∷ 0x00 ∷ [])
-    ≡ accepted (record { facts = 1; actions = probe (fact 0 ∷ []) ∷ []; start = top; goal = known top; program = end })
+    ≡ gives (record { facts = 1; actions = probe (fact 0 ∷ []) ∷ []; start = top; goal = known top; program = end })
 unfolding readingBy actionFaults leadsOn moves unless
 other-holds = refl
 

@@ -1,6 +1,6 @@
 -- Laws of reading by what is found: another value made of it, a sheet by its length, a fact number by its field, and formulas, actions and programs by their first nodes. Assumes nothing.
 use Prim.Native.Nat.{ℕ, zero, suc, _-_, _<_, _≤_}
-use mathlib.Core.Path.{_≡_, refl, sym, ap, _∙_}
+use mathlib.Core.Path.{_≡_, refl, sym, ap, subst, _∙_}
 use mathlib.Core.List.{List, [], _∷_}
 use mathlib.Core.Bool.{Bool, false}
 use native.Mathlib.Omega.{arith}
@@ -207,6 +207,33 @@ module _ (inside : Reader Objective) (part : Reader Epistemic) (bytes : List ℕ
     pub any-of-split : epistemicBehind inside part any-of-node bytes q ≡ got f i → Pair any-of
     unfolding epistemicBehind
     any-of-split e = two-split any-of e
+
+-- A formula has at most so many levels: "A formula's first node has depth 1 and each part one more".
+unfoldable pub Levels : Epistemic → ℕ → Type 0
+Levels (known f) left = 1 ≤ left
+Levels (not-known f) left = 1 ≤ left
+Levels (all-of f g) left = (1 ≤ left) × Levels f (left - 1) × Levels g (left - 1)
+Levels (any-of f g) left = (1 ≤ left) × Levels f (left - 1) × Levels g (left - 1)
+
+-- One that is read has at most those that were left.
+pub read-levels : (n : ℕ) (bytes : List ℕ) (left p : ℕ) (f : Epistemic) (q : ℕ) → epistemic n left bytes p ≡ got f q → Levels f left
+unfolding Levels
+read-levels n bytes zero p f q e = absurd (omega (arith, epistemic-split n bytes p zero f q e .0))
+read-levels n bytes (suc l) p f q e =
+    let w = epistemic-split n bytes p (suc l) f q e in
+    let less : suc l - 1 ≡ l = omega arith in
+    go (w .1) (w .2) (w .4) (λ i g j d. subst (Levels g) (sym less) (read-levels n bytes l i g j (ap (λ (k : ℕ). epistemic n k bytes i) (sym less) ∙ d)))
+  where
+    go : (h : EpistemicNode) (r : ℕ) → epistemicBehind (objective n false (suc l - 1)) (epistemic n (suc l - 1)) h bytes r ≡ got f q
+        → ((i : ℕ) (g : Epistemic) (j : ℕ) → epistemic n (suc l - 1) bytes i ≡ got g j → Levels g (suc l - 1)) → Levels f (suc l)
+    go known-node r d parts = subst (λ (g : Epistemic). Levels g (suc l)) (known-split _ _ bytes r f q d .2) (omega arith)
+    go not-known-node r d parts = subst (λ (g : Epistemic). Levels g (suc l)) (not-known-split _ _ bytes r f q d .2) (omega arith)
+    go all-of-node r d parts =
+        let w = all-of-split _ _ bytes r f q d in
+        subst (λ (g : Epistemic). Levels g (suc l)) (w .is) (omega arith, parts r (w .first) (w .middle) (w .first-read), parts (w .middle) (w .second) q (w .second-read))
+    go any-of-node r d parts =
+        let w = any-of-split _ _ bytes r f q d in
+        subst (λ (g : Epistemic). Levels g (suc l)) (w .is) (omega arith, parts r (w .first) (w .middle) (w .first-read), parts (w .middle) (w .second) q (w .second-read))
 
 -- An action, by its kind.
 module _ (n : ℕ) (bytes : List ℕ) (p : ℕ) where

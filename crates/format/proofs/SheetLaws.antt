@@ -12,7 +12,7 @@ use Rattle.lists.specs.Lists.{if_then_else_, upFrom, below, exists}
 use Rattle.lists.proofs.ListLaws.{not-both, both-true, and-both, mem-flat, every-mem, mem-every, exists-mem, mem-exists}
 use Rattle.format.specs.Syntax.{Objective, bottom, top, fact, new-fact, negation, conjunction, disjunction, equivalence, Epistemic, known, not-known, all-of, any-of, Program, end, act, branch, Action, change, probe, replyCount, actionNodes, branchNodes, Sheet, actionOf}
 use Rattle.format.specs.Truth.{isState, states, truth, holds, moves, replyHolds, allowed}
-use Rattle.format.specs.Format.{accepted, refused, Read, got, fault, Reader, andThen, _>>=_, give, field, factNumber, objectiveBehind, objective, EpistemicNode, known-node, not-known-node, all-of-node, any-of-node, epistemicNode, epistemicBehind, epistemic, objectives, Kind, changes, probes, kind, replyTotal, theoryOver, repliesOver, actionBehind, action, actionList, ProgramRead, ProgramNode, end-node, act-node, branch-node, programNode, programBehind, programWithin, levels, program, mostBytes, mostFacts, mostReplies, deepest, mostActs, mostBranches, Header, header, body, sheetFields, isPadding, hasStart, leadsOn, hasReply, unless, actionFaults, faults, decided, afterFields, ofSheet, readingBy, isEdition, reading}
+use Rattle.format.specs.Format.{gives, refused, Read, got, fault, Reader, andThen, _>>=_, give, field, factNumber, objectiveBehind, objective, EpistemicNode, known-node, not-known-node, all-of-node, any-of-node, epistemicNode, epistemicBehind, epistemic, objectives, Kind, changes, probes, kind, replyTotal, theoryOver, repliesOver, actionBehind, action, actionList, ProgramRead, ProgramNode, end-node, act-node, branch-node, programNode, programBehind, programWithin, levels, program, mostBytes, mostFacts, mostReplies, deepest, mostActs, mostBranches, Header, header, body, sheetFields, isPadding, hasStart, leadsOn, hasReply, unless, actionFaults, faults, decided, afterFields, ofSheet, readingBy, isEdition, reading}
 use Rattle.format.proofs.StateLaws.{state-listed, listed-state}
 use Rattle.format.proofs.FormatLaws.{Gives, gives-give, gives-refuse, gives-if, gives-check, gives-behind, gives-any, field-below, NumbersBelow, Counts, program-counts}
 
@@ -131,15 +131,15 @@ pub record Accepted (bytes : List ℕ) (sheet : Sheet) : Type 0 where
   pub faultless : faults actionFaults bytes position sheet ≡ []
 
 -- Accepted bytes are accepted so.
-pub accepted-how : (bytes : List ℕ) (sheet : Sheet) → reading bytes ≡ accepted sheet → Accepted bytes sheet
+pub accepted-how : (bytes : List ℕ) (sheet : Sheet) → reading bytes ≡ gives sheet → Accepted bytes sheet
 unfolding reading readingBy ofSheet afterFields decided if_then_else_
 accepted-how bytes sheet e = go (leb (length bytes) mostBytes) refl (sheetFields isEdition bytes 0) refl e
   where
-    last : (x : Sheet) (p : ℕ) (rs : List ℕ) → faults actionFaults bytes p x ≡ rs → decided rs x ≡ accepted sheet → (x ≡ sheet) × (faults actionFaults bytes p x ≡ [])
+    last : (x : Sheet) (p : ℕ) (rs : List ℕ) → faults actionFaults bytes p x ≡ rs → decided rs x ≡ gives sheet → (x ≡ sheet) × (faults actionFaults bytes p x ≡ [])
     last x p [] h k = (cc, h)
     last x p (r ∷ rs) h k = let z : _≡_ {A = ℕ} 0 1 = cc in absurd (omega arith)
 
-    go : (b : Bool) → leb (length bytes) mostBytes ≡ b → (r : Read Sheet) → sheetFields isEdition bytes 0 ≡ r → afterFields actionFaults bytes (if b then r else fault 1) ≡ accepted sheet → Accepted bytes sheet
+    go : (b : Bool) → leb (length bytes) mostBytes ≡ b → (r : Read Sheet) → sheetFields isEdition bytes 0 ≡ r → afterFields actionFaults bytes (if b then r else fault 1) ≡ gives sheet → Accepted bytes sheet
     go false l r f k = let z : _≡_ {A = ℕ} 0 1 = cc in absurd (omega arith)
     go true l (fault r) f k = let z : _≡_ {A = ℕ} 0 1 = cc in absurd (omega arith)
     go true l (got x p) f k =
@@ -186,11 +186,11 @@ module _ (bytes : List ℕ) where
         go false j = let z : _≡_ {A = ℕ} 0 1 = cc in absurd (omega arith)
 
 -- Accepted bytes are at most 1,024.
-pub accepted-length : (bytes : List ℕ) (sheet : Sheet) → reading bytes ≡ accepted sheet → length bytes ≤ mostBytes
+pub accepted-length : (bytes : List ℕ) (sheet : Sheet) → reading bytes ≡ gives sheet → length bytes ≤ mostBytes
 accepted-length bytes sheet e = accepted-how bytes sheet e .short
 
 -- An accepted sheet keeps the limits.
-pub accepted-shape : (bytes : List ℕ) (sheet : Sheet) → reading bytes ≡ accepted sheet → Shape sheet
+pub accepted-shape : (bytes : List ℕ) (sheet : Sheet) → reading bytes ≡ gives sheet → Shape sheet
 accepted-shape bytes sheet e = let how = accepted-how bytes sheet e in fields-shape isEdition bytes 0 sheet (how .position) (how .fields)
 
 -- What the tests after the fields tell: there is a start state, and in each state each action has a next state and a reply.
@@ -213,7 +213,7 @@ accepted-padding bytes sheet how =
     List·Memᴰ·not-nil (subst (λ (rs : List ℕ). List·Memᴰ 12 rs) (how .faultless) (Memᴰ·append-left _ (Memᴰ·append-left (unless (hasStart (states sheet) (sheet .start)) 13) m))))
 
 -- An accepted sheet has passed the tests.
-pub accepted-passed : (bytes : List ℕ) (sheet : Sheet) → reading bytes ≡ accepted sheet → Passed sheet
+pub accepted-passed : (bytes : List ℕ) (sheet : Sheet) → reading bytes ≡ gives sheet → Passed sheet
 unfolding faults actionFaults
 accepted-passed bytes sheet e = record {
   start = passed-unless (hasStart (states sheet) (sheet .start)) 13 (λ m. none (Memᴰ·append-left (flatMap each (sheet .actions)) (Memᴰ·append-right padding m)));
@@ -465,5 +465,5 @@ fields-facts takes =
     gives-give SheetFacts _ (record { action-facts = ha; start-facts = hs; goal-facts = hg; program-facts = hc }))))))
 
 -- The formulas of an accepted sheet mention its facts only, and new facts in theories only.
-pub accepted-facts : (bytes : List ℕ) (sheet : Sheet) → reading bytes ≡ accepted sheet → SheetFacts sheet
+pub accepted-facts : (bytes : List ℕ) (sheet : Sheet) → reading bytes ≡ gives sheet → SheetFacts sheet
 accepted-facts bytes sheet e = let how = accepted-how bytes sheet e in fields-facts isEdition bytes 0 sheet (how .position) (how .fields)

@@ -8,8 +8,9 @@ use lib.Dec.{leb, ltb, eqb}
 use lib.ListN.{length}
 use borrow.Author.Tests.{ltb-true}
 use Rattle.lists.proofs.ListLaws.{both-true}
+use Rattle.format.proofs.ReaderLaws.{Levels, read-levels}
 use Rattle.format.specs.Syntax.{Objective, Epistemic, known, not-known, all-of, any-of, Program, end, act, branch, Action, change, probe, Sheet}
-use Rattle.format.specs.Format.{accepted, got, Reader, deepest, objective, EpistemicNode, known-node, not-known-node, all-of-node, any-of-node, epistemicNode, epistemicBehind, epistemic, objectives, Kind, changes, probes, kind, replyTotal, theoryOver, repliesOver, actionBehind, action, actionList, ProgramRead, ProgramNode, end-node, act-node, branch-node, programNode, programBehind, programWithin, levels, program, header, body, isEdition, sheetFields, isPadding, mostBytes, mostReplies, mostActs, mostBranches, reading}
+use Rattle.format.specs.Format.{gives, got, Reader, deepest, objective, EpistemicNode, known-node, not-known-node, all-of-node, any-of-node, epistemicNode, epistemicBehind, epistemic, objectives, Kind, changes, probes, kind, replyTotal, theoryOver, repliesOver, actionBehind, action, actionList, ProgramRead, ProgramNode, end-node, act-node, branch-node, programNode, programBehind, programWithin, levels, program, header, body, isEdition, sheetFields, isPadding, mostBytes, mostReplies, mostActs, mostBranches, reading}
 use Rattle.format.specs.Standing.{ObjectiveAt, RepliesAt, ActionAt, ActionsAt, EpistemicAt, ProgramAt, Standing}
 use Rattle.format.proofs.FormatLaws.{Finds, finds-give, finds-refuse, finds-if, finds-check, finds-behind, finds-field, got-behind, node-anywhere}
 use Rattle.format.proofs.FormulaLaws.{objective-levels, objective-onward}
@@ -136,15 +137,15 @@ module _ (bytes : List ℕ) (p : ℕ) where
       (λ u. finds-if bytes (p + 2) _ (eqb tag 2) _ _ (λ v. finds-give bytes (p + 2) _ all-of-node (omega arith, low))
       (λ v. finds-give bytes (p + 2) _ any-of-node (omega arith, low)))))
 
-  pub program-node-inside : Finds bytes p (λ a q. (p < q) × (q ≤ 8 * length bytes)) (programNode 0 0)
+  pub program-node-inside : Finds bytes p (λ a q. (p + 2 ≤ q) × (q ≤ 8 * length bytes)) (programNode 0 0)
   unfolding programNode
   program-node-inside =
-      finds-field bytes p Inside 2 (p + 2) refl _ (λ tag e low.
-      finds-if bytes (p + 2) Inside (eqb tag 0) _ _ (λ t. finds-give bytes (p + 2) Inside end-node (omega arith, low))
-      (λ t. finds-if bytes (p + 2) Inside (eqb tag 1) _ _
-      (λ u. finds-check bytes (p + 2) Inside (ltb 0 mostActs) 11 _ (λ w. finds-field bytes (p + 2) Inside 5 (p + 7) (omega arith) _ (λ a g low′. finds-give bytes (p + 7) Inside (act-node a) (omega arith, low′))))
-      (λ u. finds-if bytes (p + 2) Inside (eqb tag 2) _ _ (λ v. finds-check bytes (p + 2) Inside (ltb 0 mostBranches) 11 _ (λ w. finds-give bytes (p + 2) Inside branch-node (omega arith, low)))
-      (λ v. finds-refuse bytes (p + 2) Inside 10))))
+      finds-field bytes p _ 2 (p + 2) refl _ (λ tag e low.
+      finds-if bytes (p + 2) _ (eqb tag 0) _ _ (λ t. finds-give bytes (p + 2) _ end-node (omega arith, low))
+      (λ t. finds-if bytes (p + 2) _ (eqb tag 1) _ _
+      (λ u. finds-check bytes (p + 2) _ (ltb 0 mostActs) 11 _ (λ w. finds-field bytes (p + 2) _ 5 (p + 7) (omega arith) _ (λ a g low′. finds-give bytes (p + 7) _ (act-node a) (omega arith, low′))))
+      (λ u. finds-if bytes (p + 2) _ (eqb tag 2) _ _ (λ v. finds-check bytes (p + 2) _ (ltb 0 mostBranches) 11 _ (λ w. finds-give bytes (p + 2) _ branch-node (omega arith, low)))
+      (λ v. finds-refuse bytes (p + 2) _ 10))))
 
 module _ (bytes : List ℕ) (n : ℕ) where
   -- An objective formula ends behind its beginning, and inside the bytes.
@@ -207,7 +208,7 @@ module _ (bytes : List ℕ) (n : ℕ) where
   -- A program ends behind its beginning, and inside the bytes.
   pub program-inside : (program : Program) (p q : ℕ) → ProgramAt bytes n program p q → (p < q) × (q ≤ 8 * length bytes)
   unfolding ProgramAt
-  program-inside end p q s = program-node-inside bytes p .found end-node q s
+  program-inside end p q s = let h = program-node-inside bytes p .found end-node q s in (omega arith, h .1)
   program-inside (act a rest) p q s =
       let h = program-node-inside bytes p .found (act-node a) (s .0) (s .1) in
       let x = program-inside rest (s .0) q (s .2) in
@@ -220,6 +221,24 @@ module _ (bytes : List ℕ) (n : ℕ) where
       let c = program-inside z (parts .else-at) (parts .rest-at) (parts .else-stands) in
       let d = program-inside rest (parts .rest-at) q (parts .rest-stands) in
       (omega arith, d .1)
+
+-- Every condition of a program has at most 16 levels.
+unfoldable pub Shallow : Program → Type 0
+Shallow end = Unit {0}
+Shallow (act a rest) = Shallow rest
+Shallow (branch f y z rest) = Levels f deepest × Shallow y × Shallow z × Shallow rest
+
+pub standing-shallow : (bytes : List ℕ) (n : ℕ) (program : Program) (p q : ℕ) → ProgramAt bytes n program p q → Shallow program
+unfolding ProgramAt Shallow
+standing-shallow bytes n end p q s = tt
+standing-shallow bytes n (act a rest) p q s = standing-shallow bytes n rest (s .0) q (s .2)
+standing-shallow bytes n (branch f y z rest) p q s =
+    let parts = s .2 in (
+      read-levels n bytes deepest (s .0) f (parts .then-at) (parts .condition-read),
+      standing-shallow bytes n y (parts .then-at) (parts .else-at) (parts .then-stands),
+      standing-shallow bytes n z (parts .else-at) (parts .rest-at) (parts .else-stands),
+      standing-shallow bytes n rest (parts .rest-at) q (parts .rest-stands),
+    )
 
 -- The fields of a sheet stand where they are read.
 fields-standing : (bytes : List ℕ) → length bytes ≤ mostBytes → Finds bytes 0 (λ sheet q. isPadding bytes q ≡ true → Standing bytes sheet) (sheetFields isEdition)
@@ -257,7 +276,7 @@ fields-standing bytes short =
     Q sheet q = isPadding bytes q ≡ true → Standing bytes sheet
 
 -- The parts of an accepted sheet stand in its bytes.
-pub accepted-standing : (bytes : List ℕ) (sheet : Sheet) → reading bytes ≡ accepted sheet → Standing bytes sheet
+pub accepted-standing : (bytes : List ℕ) (sheet : Sheet) → reading bytes ≡ gives sheet → Standing bytes sheet
 accepted-standing bytes sheet e =
     let how = accepted-how bytes sheet e in
     fields-standing bytes (how .short) .found sheet (how .position) (how .fields) (accepted-padding bytes sheet how)

@@ -11,8 +11,13 @@ use Rattle.format.specs.Bits.{bitsAt}
 
 -- An answer, or a refusal by its number.
 pub data Answer (A : Type 0) : Type 0 where
-  accepted : A → Answer A
+  gives : A → Answer A
   refused : ℕ → Answer A
+
+-- What follows where something is accepted; a refusal is handed on.
+unfoldable pub onAccepted : {A B : Type 0} → (A → Answer B) → Answer A → Answer B
+onAccepted f (gives a) = f a
+onAccepted f (refused r) = refused r
 
 -- What reading from a position finds: a value and the position after it, or the number of a refusal.
 pub data Read (A : Type 0) : Type 0 where
@@ -301,7 +306,7 @@ faults tests bytes p sheet = unless (isPadding bytes p) 12 ++ unless (hasStart (
 
 -- The first of them decides.
 unfoldable pub decided : {A : Type 0} → List ℕ → A → Answer A
-decided [] a = accepted a
+decided [] a = gives a
 decided (r ∷ rs) a = refused r
 
 unfoldable pub afterFields : (tests : (space : List ℕ) → Action → List ℕ) (bytes : List ℕ) → Read Sheet → Answer Sheet

@@ -10,6 +10,7 @@ ghost use lib.ListN.{length};
 ghost use Rattle.libc.specs.Io.{Moved};
 ghost use Rattle.routine.specs.Memory.{write};
 ghost use Rattle.format.specs.Format.{mostBytes};
+ghost use Rattle.semantics.specs.Printing.{mostLines};
 ghost use Rattle.planverify.specs.Input.{afterRead, Within, linesFor};
 
 // One byte more than a sheet may have, so that a longer input is refused.
@@ -69,7 +70,7 @@ fn read_input(sheet: &mut [u8]) -> Input
 // Writes the lines for the input into `out`, and gives their length. There are none if it couldn't be read.
 fn lines_for(input: Input, sheet: &[u8], out: &mut [u8; LINES]) -> usize
     requires { ⌜ Within input (length (now sheet)) ⌝ }
-    ensures { λ r. ⌜ (r ≡ length (linesFor input (now (sheet .entry)))) × (now (out .exit) ≡ write (now (out .entry)) 0 (linesFor input (now (sheet .entry)))) × (r ≤ 512) ⌝ }
+    ensures { λ r. ⌜ (r ≡ length (linesFor input (now (sheet .entry)))) × (now (out .exit) ≡ write (now (out .entry)) 0 (linesFor input (now (sheet .entry)))) × (r ≤ mostLines) ⌝ }
 {
     match input {
         Input::Read(n) => printing::print(&sheet[..n], out),

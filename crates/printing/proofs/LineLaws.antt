@@ -1,5 +1,5 @@
 -- Laws of the printed lines: digits, decimals and bytes in hexadecimal, and parts put one behind the other. Assumes nothing.
-use Prim.Native.Nat.{ℕ, zero, suc, _+_, _*_, _/_, _%_, _^_, _≤_, _<_}
+use Prim.Native.Nat.{ℕ, zero, suc, _+_, _-_, _*_, _/_, _%_, _^_, _≤_, _<_}
 use mathlib.Core.Path.{_≡_, refl, ap, ap₂, sym, subst, _∙_}
 use mathlib.Core.List.{List, [], _∷_, _++_}
 use mathlib.Core.Bool.{Bool, true, false}
@@ -11,25 +11,25 @@ use lib.ListN.{length, getD, take, drop, set, length-append, drop-of-length-le}
 use lib.Seq.{take-suc, drop-cons, length-take-le}
 use Rattle.lists.specs.Lists.{if_then_else_}
 use Rattle.reader.specs.declared.refusal.Refusal.{Refusal}
-use Rattle.format.specs.Format.{accepted}
-use Rattle.reader.specs.Answers.{numberOf}
+use Rattle.format.specs.Format.{gives}
+use Rattle.reader.specs.Answers.{numberOf, numberFor}
 use Rattle.semantics.specs.Verdict.{invalid}
-use Rattle.semantics.specs.Printing.{space, lineFeed, digit, decimal, hexadecimal, invalidWord, refusedWord, endLine, printedFor}
+use Rattle.semantics.specs.Printing.{space, lineFeed, digit, decimal, hexadecimal, invalidWord, refusedWord, endLine, printedFor, mostLines}
 use Rattle.semantics.proofs.PrintingLaws.{decimal-small, decimal-more}
 use Rattle.routine.specs.Memory.{write}
 use Rattle.routine.proofs.WriteLaws.{written-on}
 use Rattle.verifier.specs.declared.verdict.Verdict.{Verdict}
 use Rattle.verifier.specs.Answers.{answerOf}
-use Rattle.printing.specs.Lines.{Put, behindWord, Printable}
+use Rattle.printing.specs.Lines.{Put, behindWord, shownIn, Printable}
 
 -- The digit of a number, below 10 and from 10 on.
-pub digit-low : (d : ℕ) → d < 10 → 48 + d ≡ digit d
+pub digit-low : (d : ℕ) → d < 10 → 0x30 + d ≡ digit d
 unfolding digit if_then_else_
 digit-low d h = rw (lt-ltb d 10 h)
 
-pub digit-high : (d : ℕ) → 10 ≤ d → 87 + d ≡ digit d
+pub digit-high : (d : ℕ) → 10 ≤ d → 0x61 + (d - 10) ≡ digit d
 unfolding digit if_then_else_
-digit-high d h = rw (le-ltb d 10 h)
+digit-high d h = rw (le-ltb d 10 h) (omega arith)
 
 -- One byte is put, and two parts one behind the other.
 pub put-one : (m : List ℕ) (at b : ℕ) → Put m (set m at b) at (at + 1) (b ∷ [])
@@ -139,7 +139,7 @@ module _ (m u : List ℕ) (p : ℕ) where
 
   pub put-invalid : (v w trace : List ℕ) (c l q e : ℕ) → p ≤ 18 → l ≤ 64 → e < q + 1 + 3 * (1 + 2 * l) → Put m u 0 p (behindWord invalidWord c)
       → Put (set u p space) v (p + 1) q (decimal l) → Put (set v q lineFeed) w (q + 1) e (hexadecimal (take (1 + 2 * l) trace))
-      → Put m (set w e lineFeed) 0 (e + 1) (printedFor (accepted (invalid c l)) trace) × (e + 1 ≤ 512)
+      → Put m (set w e lineFeed) 0 (e + 1) (printedFor (gives (invalid c l)) (take (1 + 2 * l) trace)) × (e + 1 ≤ mostLines)
   unfolding behindWord printedFor
   put-invalid v w trace c l q e a b d h i j = (
     put-on (put-on (put-on (put-on h (put-on (put-one u p space) i)) (put-one v q lineFeed)) j) (put-one w e lineFeed),
@@ -147,13 +147,18 @@ module _ (m u : List ℕ) (p : ℕ) where
   )
 
 -- The bytes put are those of the verdict's lines.
-pub put-verdict : (m u trace : List ℕ) (r : ℕ) (v w : Verdict) → v ≡ w → Put m u 0 r (printedFor (answerOf w) trace) → r ≤ 512
-    → (r ≡ length (printedFor (answerOf v) trace)) × (u ≡ write m 0 (printedFor (answerOf v) trace)) × (r ≤ 512)
-put-verdict m u trace r v w e h l = rw e (omega (arith, h .place), h .written, l)
+pub put-verdict : (m u trace : List ℕ) (r : ℕ) (v w : Verdict) → v ≡ w → Put m u 0 r (printedFor (answerOf w) (shownIn (answerOf w) trace)) → r ≤ mostLines
+    → Put m u 0 r (printedFor (answerOf v) (shownIn (answerOf v) trace)) × (r ≤ mostLines)
+put-verdict m u trace r v w e h l = rw e (h, l)
 
--- The line of a refusal by its number.
+-- The line of a short memory, and that of a refusal, by its number.
+pub put-short : (m u trace : List ℕ) (r k : ℕ) (v : Verdict) → v ≡ Verdict.ShortMemory → k ≡ numberFor (answerOf v) → Put m u 0 r (behindWord refusedWord k ++ endLine)
+    → Put m u 0 r (printedFor (answerOf Verdict.ShortMemory) (shownIn (answerOf Verdict.ShortMemory) trace))
+unfolding behindWord printedFor answerOf numberFor
+put-short m u trace r k v s e h = subst (λ (j : ℕ). Put m u 0 r (behindWord refusedWord j ++ endLine)) (e ∙ ap (λ (w : Verdict). numberFor (answerOf w)) s) h
+
 pub put-refused : (m u trace : List ℕ) (r k : ℕ) (x : Refusal) → k ≡ numberOf x → Put m u 0 r (behindWord refusedWord k ++ endLine)
-    → Put m u 0 r (printedFor (answerOf (Verdict.Refused x)) trace)
+    → Put m u 0 r (printedFor (answerOf (Verdict.Refused x)) (shownIn (answerOf (Verdict.Refused x)) trace))
 unfolding behindWord printedFor answerOf
 put-refused m u trace r k x e h = subst (λ (j : ℕ). Put m u 0 r (behindWord refusedWord j ++ endLine)) e h
 

@@ -1,16 +1,18 @@
 -- What `print` writes is what is printed for the sheet. Assumes nothing.
-use Prim.Native.Nat.{ℕ}
-use mathlib.Core.Path.{_≡_, sym, ap, _∙_}
+use Prim.Native.Nat.{ℕ, _+_, _*_}
+use mathlib.Core.Path.{_≡_, refl, sym, ap, ap₂, _∙_}
 use mathlib.Core.List.{List}
-use lib.ListN.{length, replicate}
-use Rattle.format.specs.Format.{Answer}
-use Rattle.semantics.specs.Verdict.{Verdict as Meant, verified}
+use native.Mathlib.Omega.{arith}
+use lib.ListN.{length, take}
+use Rattle.format.specs.Syntax.{Sheet}
+use Rattle.format.specs.Format.{Answer, gives, refused, onAccepted, reading}
+use Rattle.semantics.specs.Verdict.{Verdict as Meant, valid, invalid, stopped, outcome, outcomeOf, verdictOf, shownBy, written, Verified, LongEnough, verified}
 use Rattle.semantics.specs.Printing.{printedFor, printed}
-use Rattle.semantics.proofs.MemoryLaws.{memory-length, invalid-short}
+use Rattle.semantics.proofs.MemoryLaws.{verified-accepted, verified-refused, begins, memory-length, invalid-short}
 use Rattle.routine.specs.Memory.{write}
 use Rattle.verifier.specs.declared.verdict.Verdict.{Verdict}
 use Rattle.verifier.specs.Answers.{answerOf}
-use Rattle.printing.specs.Lines.{Printable}
+use Rattle.printing.specs.Lines.{Put, shownIn, Printable}
 
 module _ (bytes : List ℕ) (budget : ℕ) (old : List ℕ) where
   -- A verdict on a sheet shows at most 64 actions.
@@ -25,14 +27,34 @@ module _ (bytes : List ℕ) (budget : ℕ) (old : List ℕ) where
   pub trace-long : (memory : List ℕ) → memory ≡ verified bytes budget old .memory → length memory ≡ length old
   trace-long memory e = ap length e ∙ memory-length bytes budget old
 
-module _ (bytes : List ℕ) (r : Verdict) (memory : List ℕ) (answered : answerOf r ≡ verified bytes 1_000_000 (replicate 129 0) .answer)
-    (kept : memory ≡ verified bytes 1_000_000 (replicate 129 0) .memory) where
-  prints : printedFor (answerOf r) memory ≡ printed bytes
-  unfolding printed
-  prints = ap (λ (a : Answer Meant). printedFor a memory) answered ∙ ap (printedFor (verified bytes 1_000_000 (replicate 129 0) .answer)) kept
+-- Only "invalid" prints a trace: 1 + 2L bytes of a memory, if they are the trace that is shown.
+in-memory : (v : Meant) (shown memory : List ℕ) → ((c l : ℕ) → v ≡ invalid c l → take (1 + 2 * l) memory ≡ shown)
+    → printedFor (gives v) (shownIn (gives v) memory) ≡ printedFor (gives v) shown
+unfolding printedFor shownIn
+in-memory (valid c) shown memory k = refl
+in-memory (invalid c l) shown memory k = rw (k c l refl)
+in-memory (stopped b) shown memory k = refl
 
-  pub length-printed : (n : ℕ) → n ≡ length (printedFor (answerOf r) memory) → n ≡ length (printed bytes)
-  length-printed n e = e ∙ ap length prints
+-- What is printed is what a call's answer prints with the trace in the memory after it, whatever the memory held before.
+abbrev said : Verified → List ℕ
+said v = printedFor (v .answer) (shownIn (v .answer) (v .memory))
 
-  pub bytes-printed : (out out′ : List ℕ) → out′ ≡ write out 0 (printedFor (answerOf r) memory) → out′ ≡ write out 0 (printed bytes)
-  bytes-printed out out′ e = e ∙ ap (write out 0) prints
+module _ (bytes old : List ℕ) (enough : LongEnough old) where
+  pub said-printed : said (verified bytes 1_000_000 old) ≡ printed bytes
+  unfolding printed outcomeOf onAccepted verdictOf shownBy printedFor
+  said-printed = go (reading bytes) refl
+    where
+      go : (a : Answer Sheet) → reading bytes ≡ a
+          → said (verified bytes 1_000_000 old) ≡ (let o = onAccepted (λ (sheet : Sheet). gives (outcome sheet 1_000_000)) a in printedFor (verdictOf o) (shownBy o))
+      go (refused r) e = ap said (verified-refused bytes r e 1_000_000 old enough)
+      go (gives sheet) e =
+          ap said (verified-accepted bytes sheet e 1_000_000 old enough)
+          ∙ in-memory (outcome sheet 1_000_000 .verdict) (outcome sheet 1_000_000 .shown) (written (outcome sheet 1_000_000 .shown) old) (λ c l k. begins bytes sheet e 1_000_000 c l k old)
+
+  -- So it is of the code's verdict and memory.
+  module _ (r : Verdict) (memory : List ℕ) (answered : answerOf r ≡ verified bytes 1_000_000 old .answer) (kept : memory ≡ verified bytes 1_000_000 old .memory) where
+    prints : printedFor (answerOf r) (shownIn (answerOf r) memory) ≡ printed bytes
+    prints = ap₂ (λ (a : Answer Meant) (m : List ℕ). printedFor a (shownIn a m)) answered kept ∙ said-printed
+
+    pub lines-printed : (out out′ : List ℕ) (n : ℕ) → Put out out′ 0 n (printedFor (answerOf r) (shownIn (answerOf r) memory)) → (n ≡ length (printed bytes)) × (out′ ≡ write out 0 (printed bytes))
+    lines-printed out out′ n p = (omega (arith, p .place, ap length prints), p .written ∙ ap (write out 0) prints)

@@ -1,9 +1,10 @@
 -- The method: what the parts of `print` write, for the contracts of inner functions. An auditor of the promises needs none of it.
-use Prim.Native.Nat.{ℕ, _+_, _≤_}
+use Prim.Native.Nat.{ℕ, _+_, _*_, _≤_}
 use mathlib.Core.Path.{_≡_}
-use mathlib.Core.List.{List, _++_}
-use lib.ListN.{length}
-use Rattle.format.specs.Format.{mostActs}
+use mathlib.Core.List.{List, [], _++_}
+use lib.ListN.{length, take}
+use Rattle.format.specs.Format.{Answer, gives, refused, mostActs}
+use Rattle.semantics.specs.Verdict.{Verdict as Meant, valid, invalid, stopped}
 use Rattle.semantics.specs.Printing.{decimal, behindSpace}
 use Rattle.routine.specs.Memory.{write}
 use Rattle.verifier.specs.declared.verdict.Verdict.{Verdict}
@@ -17,6 +18,13 @@ pub record Put (before after : List ℕ) (at behind : ℕ) (bytes : List ℕ) : 
 unfoldable pub behindWord : (word : List ℕ) (n : ℕ) → List ℕ
 unfolding decimal
 behindWord word n = word ++ behindSpace n
+
+-- The trace that an answer shows, out of the trace memory after the call: "1 + 2L bytes".
+unfoldable pub shownIn : Answer Meant → (memory : List ℕ) → List ℕ
+shownIn (gives (valid c)) memory = []
+shownIn (gives (invalid c l)) memory = take (1 + 2 * l) memory
+shownIn (gives (stopped b)) memory = []
+shownIn (refused r) memory = []
 
 -- A verdict whose trace, if it has one, is of at most 64 actions.
 unfoldable pub Printable : Verdict → Type 0

@@ -1,17 +1,18 @@
 // The lines that planverify prints.
 use routine::TRACE;
 use verifier::Verdict;
+use verifier::number;
 use verifier::verify;
 ghost use mathlib.Core.Path.{_≡_};
 ghost use mathlib.Core.List.{[], _∷_, _++_};
 ghost use Prim.Native.Nat.{_+_, _*_, _≤_, _<_};
 ghost use lib.ListN.{length, take};
-ghost use Rattle.semantics.specs.Printing.{digit as digitOf, decimal, hexadecimal, endLine, printedFor, printed};
-ghost use Rattle.format.specs.Format.{accepted, mostActs};
+ghost use Rattle.semantics.specs.Printing.{digit as digitOf, decimal, hexadecimal, endLine, printedFor, mostLines, printed};
+ghost use Rattle.format.specs.Format.{gives, mostActs};
 ghost use Rattle.semantics.specs.Verdict.{invalid, longestTrace};
 ghost use Rattle.routine.specs.Memory.{write};
 ghost use Rattle.verifier.specs.Answers.{answerOf};
-ghost use Rattle.printing.specs.Lines.{Put, behindWord, Printable};
+ghost use Rattle.printing.specs.Lines.{Put, behindWord, shownIn, Printable};
 
 // The bytes that the lines take at most.
 pub const LINES: usize = 512;
@@ -25,14 +26,14 @@ fn digit(d: u8) -> u8
     ensures { λ r. ⌜ r ≡ digitOf d ⌝ }
 {
     if d < 10 {
-        return 48 + d;
+        return b'0' + d;
     }
-    87 + d
+    b'a' + (d - 10)
 }
 
 // Writes a word, and gives the place behind it.
 fn put_word(out: &mut [u8; LINES], at: usize, word: &[u8]) -> usize
-    requires { ⌜ at + length (now word) ≤ 512 ⌝ }
+    requires { ⌜ at + length (now word) ≤ mostLines ⌝ }
     ensures { λ r. ⌜ Put (now (out .entry)) (now (out .exit)) at r (now (word .entry)) ⌝ }
 {
     for i in 0..word.len() {
@@ -43,7 +44,7 @@ fn put_word(out: &mut [u8; LINES], at: usize, word: &[u8]) -> usize
 
 // Writes a number in decimal, and gives the place behind it.
 fn put_decimal(out: &mut [u8; LINES], at: usize, n: u32) -> usize
-    requires { ⌜ at + length (decimal n) ≤ 512 ⌝ }
+    requires { ⌜ at + length (decimal n) ≤ mostLines ⌝ }
     ensures { λ r. ⌜ Put (now (out .entry)) (now (out .exit)) at r (decimal n) ⌝ }
 {
     if n < 10 {
@@ -57,7 +58,7 @@ fn put_decimal(out: &mut [u8; LINES], at: usize, n: u32) -> usize
 
 // Writes a byte in hexadecimal.
 fn put_byte(out: &mut [u8; LINES], at: usize, b: u8)
-    requires { ⌜ at + 2 ≤ 512 ⌝ }
+    requires { ⌜ at + 2 ≤ mostLines ⌝ }
     ensures { λ r. ⌜ now (out .exit) ≡ write (now (out .entry)) at (hexadecimal (b ∷ [])) ⌝ }
 {
     out[at] = digit(b / 16);
@@ -66,7 +67,7 @@ fn put_byte(out: &mut [u8; LINES], at: usize, b: u8)
 
 // Writes the bytes of a trace in hexadecimal, and gives the place behind them.
 fn put_trace(out: &mut [u8; LINES], at: usize, trace: &[u8; TRACE], count: usize) -> usize
-    requires { ⌜ (at + 3 * count ≤ 512) × (0 < count) × (count ≤ longestTrace) × (length (now trace) ≡ longestTrace) ⌝ }
+    requires { ⌜ (at + 3 * count ≤ mostLines) × (0 < count) × (count ≤ longestTrace) × (length (now trace) ≡ longestTrace) ⌝ }
     ensures { λ r. ⌜ Put (now (out .entry)) (now (out .exit)) at r (hexadecimal (take count (now (trace .entry)))) × (r < at + 3 * count) ⌝ }
 {
     put_byte(out, at, trace[0]);
@@ -102,7 +103,7 @@ fn put_line(out: &mut [u8; LINES], word: &[u8], n: u32) -> usize
 // Writes the lines of a verdict "invalid" with its trace, and gives their length.
 fn put_invalid(out: &mut [u8; LINES], c: u32, l: usize, trace: &[u8; TRACE]) -> usize
     requires { ⌜ (l ≤ mostActs) × (length (now trace) ≡ longestTrace) ⌝ }
-    ensures { λ r. ⌜ Put (now (out .entry)) (now (out .exit)) 0 r (printedFor (accepted (invalid c l)) (now (trace .entry))) × (r ≤ 512) ⌝ }
+    ensures { λ r. ⌜ Put (now (out .entry)) (now (out .exit)) 0 r (printedFor (gives (invalid c l)) (take (1 + 2 * l) (now (trace .entry)))) × (r ≤ mostLines) ⌝ }
 {
     let p = put_counted(out, b"invalid", c);
     out[p] = b' ';
@@ -116,20 +117,20 @@ fn put_invalid(out: &mut [u8; LINES], c: u32, l: usize, trace: &[u8; TRACE]) -> 
 // Writes what an answer prints, and gives its length.
 fn put_lines(out: &mut [u8; LINES], verdict: Verdict, trace: &[u8; TRACE]) -> usize
     requires { ⌜ Printable verdict × (length (now trace) ≡ longestTrace) ⌝ }
-    ensures { λ r. ⌜ (r ≡ length (printedFor (answerOf verdict) (now (trace .entry)))) × (now (out .exit) ≡ write (now (out .entry)) 0 (printedFor (answerOf verdict) (now (trace .entry)))) × (r ≤ 512) ⌝ }
+    ensures { λ r. ⌜ Put (now (out .entry)) (now (out .exit)) 0 r (printedFor (answerOf verdict) (shownIn (answerOf verdict) (now (trace .entry)))) × (r ≤ mostLines) ⌝ }
 {
     match verdict {
         Verdict::Valid(c) => put_line(out, b"valid", c),
         Verdict::Invalid(c, l) => put_invalid(out, c, l, trace),
         Verdict::Stopped(b) => put_line(out, b"stopped", b),
-        Verdict::ShortMemory => put_line(out, b"refused", 30),
+        Verdict::ShortMemory => put_line(out, b"refused", number(verdict) as u32),
         Verdict::Refused(r) => put_line(out, b"refused", reader::number(r) as u32),
     }
 }
 
 // Writes what planverify prints for a sheet from the first byte on, and gives its length.
 pub fn print(bytes: &[u8], out: &mut [u8; LINES]) -> usize
-    ensures { λ r. ⌜ (r ≡ length (printed (now (bytes .entry)))) × (now (out .exit) ≡ write (now (out .entry)) 0 (printed (now (bytes .entry)))) × (r ≤ 512) ⌝ }
+    ensures { λ r. ⌜ (r ≡ length (printed (now (bytes .entry)))) × (now (out .exit) ≡ write (now (out .entry)) 0 (printed (now (bytes .entry)))) × (r ≤ mostLines) ⌝ }
 {
     let mut trace = [0u8; TRACE];
     let verdict = verify(bytes, BUDGET, &mut trace);

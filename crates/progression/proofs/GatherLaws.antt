@@ -18,7 +18,7 @@ use Rattle.states.proofs.BitLaws.{bit-none, lowest-set, bit-cleared}
 use Rattle.states.proofs.SetLaws.{Fitting, in-word, member-setOf, set-is, set-cong}
 use Rattle.routine.specs.declared.memory.Head.{Head}
 use Rattle.routine.specs.Memory.{setAt, headAt}
-use Rattle.progression.specs.Machine.{gathered, effect, stepped}
+use Rattle.progression.specs.Machine.{gathered, effect, keptBy, stepped}
 
 -- An element among the numbers from a on is among the first j of them or behind those.
 exists-split : (test : ℕ → Bool) (a j k : ℕ) → exists test (upFrom a (j + k)) ≡ (exists test (upFrom a j) || exists test (upFrom (a + j) k))
@@ -177,22 +177,50 @@ module _ (sets : List ℕ) (head : Head) (set : States) where
   pub effect-none : head .replies ≤ head .rows → set ≡ effect sets head set
   effect-none h = passed (gathered sets (head .rows) set) (le-ltb (head .rows) (head .replies) h) ∙ effect-choice
 
--- A step by a reply that the action has, and by one that it hasn't.
-module _ (heads sets : List ℕ) (set : States) (action reply : ℕ) (head : Head) (is : head ≡ headAt heads action) where
-  abbrev kept : Head → States
-  kept head = setOf (λ t. member (effect sets head set) t && member (setAt sets (head .replies + reply)) t)
+-- The states kept by a reply that the action has, and by one that it hasn't.
+module _ (sets : List ℕ) (head : Head) (set : States) (reply : ℕ) where
+  abbrev kept : States
+  kept = setOf (λ t. member set t && member (setAt sets (head .replies + reply)) t)
 
-  choice : (if ltb reply (headAt heads action .count) then kept (headAt heads action) else setOf (λ t. false)) ≡ stepped heads sets set action reply
+  kept-choice : (if ltb reply (head .count) then kept else setOf (λ t. false)) ≡ keptBy sets head set reply
+  unfolding keptBy
+  kept-choice = refl
+
+  kept-none : head .count ≤ reply → setOf (λ t. false) ≡ keptBy sets head set reply
+  kept-none h = passed kept (le-ltb reply (head .count) h) ∙ kept-choice
+
+  kept-some : (row : States) → reply < head .count → row ≡ setAt sets (head .replies + reply) → setOf (λ t. member set t && member row t) ≡ keptBy sets head set reply
+  kept-some row h r = ap (λ (x : States). setOf (λ t. member set t && member x t)) r ∙ chosen (setOf (λ t. false)) (lt-ltb reply (head .count) h) ∙ kept-choice
+
+-- The same by a head that was read.
+module _ (sets : List ℕ) (head at : Head) (is : head ≡ at) (set : States) where
+  pub read-rows : head .rows < head .replies → gathered sets (head .rows) set ≡ effect sets at set
+  read-rows h = effect-rows sets head set h ∙ ap (λ (x : Head). effect sets x set) is
+
+  pub read-same : head .replies ≤ head .rows → set ≡ effect sets at set
+  read-same h = effect-none sets head set h ∙ ap (λ (x : Head). effect sets x set) is
+
+  module _ (reply : ℕ) where
+    pub read-none : head .count ≤ reply → setOf (λ t. false) ≡ keptBy sets at set reply
+    read-none h = kept-none sets head set reply h ∙ ap (λ (x : Head). keptBy sets x set reply) is
+
+    pub read-kept : (row : States) → reply < head .count → row ≡ setAt sets (head .replies + reply) → setOf (λ t. member set t && member row t) ≡ keptBy sets at set reply
+    read-kept row h r = kept-some sets head set reply row h r ∙ ap (λ (x : Head). keptBy sets x set reply) is
+
+-- A step: the effect, and of its states those that the reply keeps.
+module _ (heads sets : List ℕ) (set : States) (action reply : ℕ) where
+  pub step-halves : (after kept : States) → after ≡ effect sets (headAt heads action) set → kept ≡ keptBy sets (headAt heads action) after reply → kept ≡ stepped heads sets set action reply
   unfolding stepped
-  choice = refl
+  step-halves after kept a k = k ∙ ap (λ (x : States). keptBy sets (headAt heads action) x reply) a
 
-  step-choice : (if ltb reply (head .count) then kept head else setOf (λ t. false)) ≡ stepped heads sets set action reply
-  step-choice = ap (λ (h : Head). if ltb reply (h .count) then kept h else setOf (λ t. false)) is ∙ choice
+  module _ (head : Head) (is : head ≡ headAt heads action) where
+    by-head : keptBy sets head (effect sets head set) reply ≡ stepped heads sets set action reply
+    unfolding stepped
+    by-head = ap (λ (h : Head). keptBy sets h (effect sets h set) reply) is
 
-  pub step-none : head .count ≤ reply → setOf (λ t. false) ≡ stepped heads sets set action reply
-  step-none h = passed (kept head) (le-ltb reply (head .count) h) ∙ step-choice
+    pub step-none : head .count ≤ reply → setOf (λ t. false) ≡ stepped heads sets set action reply
+    step-none h = kept-none sets head (effect sets head set) reply h ∙ by-head
 
-  pub step-kept : (after row : States) → reply < head .count → after ≡ effect sets head set → row ≡ setAt sets (head .replies + reply)
-      → setOf (λ t. member after t && member row t) ≡ stepped heads sets set action reply
-  step-kept after row h e r =
-      ap₂ (λ (x y : States). setOf (λ t. member x t && member y t)) e r ∙ chosen (setOf (λ t. false)) (lt-ltb reply (head .count) h) ∙ step-choice
+    pub step-kept : (after row : States) → reply < head .count → after ≡ effect sets head set → row ≡ setAt sets (head .replies + reply)
+        → setOf (λ t. member after t && member row t) ≡ stepped heads sets set action reply
+    step-kept after row h e r = kept-some sets head after reply row h r ∙ ap (λ (x : States). keptBy sets head x reply) e ∙ by-head

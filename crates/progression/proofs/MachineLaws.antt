@@ -1,32 +1,43 @@
--- Laws of the machine: what is known, and where the program settles. Assumes nothing.
+-- Laws of the machine: what is known, what holds, and where the program settles. Assumes nothing.
 use Prim.Native.Nat.{ℕ, zero, suc, _+_, _-_, _≤_, _<_}
-use mathlib.Core.Path.{_≡_, refl, sym, ap, subst, _∙_}
-use mathlib.Core.List.{List}
-use mathlib.Core.Bool.{Bool, true, false, not, _&&_}
-use mathlib.Core.Logic.{⊎-elim}
+use mathlib.Core.Path.{_≡_, refl, sym, ap, _∙_}
+use mathlib.Core.List.{List, [], _∷_}
+use mathlib.Core.Bool.{Bool, true, false, not, _&&_, _||_}
+use mathlib.Core.Logic.{⊎-elim, inl, inr}
 use native.Mathlib.Omega.{arith}
-use borrow.Author.Tests.{not-true}
+use types.Run.{OneOf}
+use denote.Enum.Declared.{tagOf}
+use lib.Dec.{ltb}
+use borrow.Author.Tests.{not-true, ltb-true, ltb-false}
 use Rattle.lists.specs.Lists.{if_then_else_, every, nonempty}
 use Rattle.lists.proofs.ListLaws.{two-cases, same-test, not-both, both-true, and-both, every-mem, mem-every, mem-nonempty, nonempty-mem}
 use Rattle.states.proofs.SetLaws.{member-setOf, members-mem, mem-members}
 use Rattle.states.specs.declared.States.{States}
 use Rattle.states.specs.Sets.{member, setOf, members}
+use Rattle.format.specs.Format.{deepest}
 use Rattle.routine.specs.declared.memory.Node.{Node}
-use Rattle.routine.specs.Memory.{Small, nodeMost, setAt, nodeAt}
+use Rattle.routine.proofs.memory.Node.{the-type}
+use Rattle.routine.specs.Memory.{nodeMost, setAt, nodeAt}
+use Rattle.routine.proofs.MemoryLaws.{node-past}
+use Rattle.routine.specs.Tables.{goalNode}
 use Rattle.progression.specs.declared.place.Place.{Place}
-use Rattle.progression.specs.Machine.{knownBy, atNode, settledFrom, settled}
+use Rattle.progression.specs.Machine.{knownBy, formulaNode, holdsAt, atNode, settledFrom, settled}
 
 -- What a node leads to, by where it leads on.
-atNode-same : (known : ℕ → Bool) (node : Node) (i : ℕ) (f g : ℕ → Place) → ((skip : ℕ) → f skip ≡ g skip) → atNode known node i f ≡ atNode known node i g
+atNode-same : (formula : ℕ → Bool) (node : Node) (i : ℕ) (f g : ℕ → Place) → ((skip : ℕ) → f skip ≡ g skip) → atNode formula node i f ≡ atNode formula node i g
 unfolding atNode
-atNode-same known (Node.Act a) i f g h = refl
-atNode-same known (Node.Test k met unmet) i f g h = h (if known k then met else unmet)
-atNode-same known (Node.Jump skip) i f g h = h skip
-atNode-same known (Node.End holds) i f g h = refl
+atNode-same formula (Node.Act a number) i f g h = refl
+atNode-same formula (Node.Branch met unmet) i f g h = h (if formula (i + 1) then met else unmet)
+atNode-same formula (Node.Jump skip) i f g h = h skip
+atNode-same formula (Node.End count) i f g h = refl
+atNode-same formula (Node.All size) i f g h = refl
+atNode-same formula (Node.Any size) i f g h = refl
+atNode-same formula (Node.Known k) i f g h = refl
+atNode-same formula (Node.NotKnown k) i f g h = refl
 
-module _ (nodes : List ℕ) (known : ℕ → Bool) where
+module _ (node : ℕ → Node) (formula : ℕ → Bool) where
   -- Skipping nodes is going on behind them.
-  skipped : (left skip i : ℕ) → settledFrom nodes known left skip i ≡ settledFrom nodes known (left - skip) 0 (i + skip)
+  skipped : (left skip i : ℕ) → settledFrom node formula left skip i ≡ settledFrom node formula (left - skip) 0 (i + skip)
   unfolding settledFrom
   skipped zero skip i = let e : 0 - skip ≡ 0 = omega arith in rw e
   skipped (suc left) (suc skip) i =
@@ -38,105 +49,151 @@ module _ (nodes : List ℕ) (known : ℕ → Bool) where
       let j : i + 0 ≡ i = omega arith in
       rw (e, j)
 
-  -- What stands at a node tells where the program settles from it on.
-  settled-here : (left i : ℕ) → settledFrom nodes known (suc left) 0 i ≡ atNode known (nodeAt nodes i) i (λ skip. settledFrom nodes known left skip (suc i))
+  settled-here : (left i : ℕ) → settledFrom node formula (suc left) 0 i ≡ atNode formula (node i) i (λ skip. settledFrom node formula left skip (suc i))
   unfolding settledFrom
   settled-here left i = refl
 
   -- An action at which the program settles stands behind the nodes that are skipped, among those that are left.
-  forward : (left skip i j a : ℕ) → settledFrom nodes known left skip i ≡ Place.Act j a → (i + skip ≤ j) × (j < i + left) × (nodeAt nodes j ≡ Node.Act a)
+  forward : (left skip i j a : ℕ) → settledFrom node formula left skip i ≡ Place.Act j a → (i + skip ≤ j) × (j < i + left)
   unfolding settledFrom
   forward zero skip i j a e = let z : _≡_ {A = ℕ} 0 1 = cc in absurd (omega arith)
-  forward (suc left) (suc skip) i j a e = let r = forward left skip (suc i) j a e in (omega arith, omega arith, r .2)
-  forward (suc left) zero i j a e = go (nodeAt nodes i) refl (λ skip h. forward left skip (suc i) j a h) e
+  forward (suc left) (suc skip) i j a e = let r = forward left skip (suc i) j a e in (omega arith, omega arith)
+  forward (suc left) zero i j a e = go (node i) (λ skip h. forward left skip (suc i) j a h) e
     where
-      further : (skip : ℕ) → (suc i + skip ≤ j) × (j < suc i + left) × (nodeAt nodes j ≡ Node.Act a) → (i + 0 ≤ j) × (j < i + suc left) × (nodeAt nodes j ≡ Node.Act a)
-      further skip r = (omega arith, omega arith, r .2)
+      further : (skip : ℕ) → (suc i + skip ≤ j) × (j < suc i + left) → (i + 0 ≤ j) × (j < i + suc left)
+      further skip r = (omega arith, omega arith)
 
-      go : (node : Node) → nodeAt nodes i ≡ node
-          → ((skip : ℕ) → settledFrom nodes known left skip (suc i) ≡ Place.Act j a → (suc i + skip ≤ j) × (j < suc i + left) × (nodeAt nodes j ≡ Node.Act a))
-          → atNode known node i (λ skip. settledFrom nodes known left skip (suc i)) ≡ Place.Act j a
-          → (i + 0 ≤ j) × (j < i + suc left) × (nodeAt nodes j ≡ Node.Act a)
-      go (Node.Act b) n on h =
-          let p : i ≡ j = cc in
-          let q : b ≡ a = cc in
-          (omega arith, omega arith, ap (nodeAt nodes) (sym p) ∙ n ∙ ap Node.Act q)
-      go (Node.Test k met unmet) n on h = further (if known k then met else unmet) (on (if known k then met else unmet) h)
-      go (Node.Jump skip) n on h = further skip (on skip h)
-      go (Node.End holds) n on h = let z : _≡_ {A = ℕ} 0 1 = cc in absurd (omega arith)
+      no-end : (b : Bool) → Place.End b ≡ Place.Act j a → (i + 0 ≤ j) × (j < i + suc left)
+      no-end b h = let z : _≡_ {A = ℕ} 0 1 = cc in absurd (omega arith)
+
+      go : (x : Node) → ((skip : ℕ) → settledFrom node formula left skip (suc i) ≡ Place.Act j a → (suc i + skip ≤ j) × (j < suc i + left))
+          → atNode formula x i (λ skip. settledFrom node formula left skip (suc i)) ≡ Place.Act j a → (i + 0 ≤ j) × (j < i + suc left)
+      go (Node.Act b number) on h = let p : i ≡ j = cc in (omega arith, omega arith)
+      go (Node.Branch met unmet) on h = further (if formula (i + 1) then met else unmet) (on (if formula (i + 1) then met else unmet) h)
+      go (Node.Jump skip) on h = further skip (on skip h)
+      go (Node.End count) on h = no-end (formula goalNode) h
+      go (Node.All size) on h = no-end false h
+      go (Node.Any size) on h = no-end false h
+      go (Node.Known k) on h = no-end false h
+      go (Node.NotKnown k) on h = no-end false h
 
   -- Where the program settles from node i on.
   abbrev pub goesTo : ℕ → Place
-  goesTo i = settledFrom nodes known (nodeMost - i) 0 i
+  goesTo i = settledFrom node formula (nodeMost - i) 0 i
 
-  -- A node that is there is where it settles, or leads on by what is known.
-  pub goes-on : (i : ℕ) → i < nodeMost → goesTo i ≡ atNode known (nodeAt nodes i) i (λ skip. goesTo (i + 1 + skip))
+  -- A node that is there is where it settles, or leads on by whether the formula behind it holds.
+  pub goes-on : (i : ℕ) → i < nodeMost → goesTo i ≡ atNode formula (node i) i (λ skip. goesTo (i + 1 + skip))
   goes-on i h =
       let l : nodeMost - i ≡ suc (nodeMost - (i + 1)) = omega arith in
-      ap (λ (left : ℕ). settledFrom nodes known left 0 i) l ∙ settled-here (nodeMost - (i + 1)) i
-      ∙ atNode-same known (nodeAt nodes i) i (λ skip. settledFrom nodes known (nodeMost - (i + 1)) skip (suc i)) (λ skip. goesTo (i + 1 + skip)) onward
+      ap (λ (left : ℕ). settledFrom node formula left 0 i) l ∙ settled-here (nodeMost - (i + 1)) i
+      ∙ atNode-same formula (node i) i (λ skip. settledFrom node formula (nodeMost - (i + 1)) skip (suc i)) (λ skip. goesTo (i + 1 + skip)) onward
     where
-      onward : (skip : ℕ) → settledFrom nodes known (nodeMost - (i + 1)) skip (suc i) ≡ goesTo (i + 1 + skip)
+      onward : (skip : ℕ) → settledFrom node formula (nodeMost - (i + 1)) skip (suc i) ≡ goesTo (i + 1 + skip)
       onward skip =
           let l : nodeMost - (i + 1) - skip ≡ nodeMost - (i + 1 + skip) = omega arith in
           let j : suc i + skip ≡ i + 1 + skip = omega arith in
           skipped (nodeMost - (i + 1)) skip (suc i) ∙ rw (l, j)
 
-  -- By what stands there.
-  module _ (i : ℕ) (h : i < nodeMost) where
-    goes-by : (node : Node) → nodeAt nodes i ≡ node → goesTo i ≡ atNode known node i (λ skip. goesTo (i + 1 + skip))
-    goes-by node e = goes-on i h ∙ ap (λ (x : Node). atNode known x i (λ skip. goesTo (i + 1 + skip))) e
+  pub goes-by : (i : ℕ) → i < nodeMost → (x : Node) → x ≡ node i → goesTo i ≡ atNode formula x i (λ skip. goesTo (i + 1 + skip))
+  goes-by i h x e = goes-on i h ∙ ap (λ (y : Node). atNode formula y i (λ skip. goesTo (i + 1 + skip))) (sym e)
 
-    pub goes-act : (a : ℕ) → nodeAt nodes i ≡ Node.Act a → goesTo i ≡ Place.Act i a
-    unfolding atNode
-    goes-act a e = goes-by (Node.Act a) e
-
-    pub goes-end : (holds : Bool) → nodeAt nodes i ≡ Node.End holds → goesTo i ≡ Place.End holds
-    unfolding atNode
-    goes-end holds e = goes-by (Node.End holds) e
-
-    pub goes-jump : (skip : ℕ) → nodeAt nodes i ≡ Node.Jump skip → goesTo i ≡ goesTo (i + 1 + skip)
-    unfolding atNode
-    goes-jump skip e = goes-by (Node.Jump skip) e
-
-    goes-test : (k met unmet : ℕ) → nodeAt nodes i ≡ Node.Test k met unmet → goesTo i ≡ goesTo (i + 1 + (if known k then met else unmet))
-    unfolding atNode
-    goes-test k met unmet e = goes-by (Node.Test k met unmet) e
-
-    pub goes-met : (k met unmet : ℕ) → nodeAt nodes i ≡ Node.Test k met unmet → known k ≡ true → goesTo i ≡ goesTo (i + 1 + met)
-    unfolding if_then_else_
-    goes-met k met unmet e t = goes-test k met unmet e ∙ ap (λ (b : Bool). goesTo (i + 1 + (if b then met else unmet))) t
-
-    pub goes-unmet : (k met unmet : ℕ) → nodeAt nodes i ≡ Node.Test k met unmet → known k ≡ false → goesTo i ≡ goesTo (i + 1 + unmet)
-    unfolding if_then_else_
-    goes-unmet k met unmet e t = goes-test k met unmet e ∙ ap (λ (b : Bool). goesTo (i + 1 + (if b then met else unmet))) t
+  -- A branch leads on by whether its condition holds.
+  pub goes-branch : (i : ℕ) → i < nodeMost → (met unmet : ℕ) → Node.Branch met unmet ≡ node i → (b : Bool) → b ≡ formula (i + 1) → goesTo i ≡ goesTo (i + 1 + (if b then met else unmet))
+  unfolding atNode
+  goes-branch i h met unmet e b p = goes-by i h (Node.Branch met unmet) e ∙ ap (λ (x : Bool). goesTo (i + 1 + (if x then met else unmet))) (sym p)
 
   -- Behind the last node it ends, and the goal fails.
   pub goes-past : (i : ℕ) → nodeMost ≤ i → goesTo i ≡ Place.End false
   unfolding settledFrom
   goes-past i h = let e : nodeMost - i ≡ 0 = omega arith in rw e
 
-module _ (nodes sets : List ℕ) (set : States) (at : ℕ) where
-  -- The place that a program reaches from a node on.
-  pub settled-goes : settled nodes sets set at ≡ goesTo nodes (knownBy sets set) at
-  unfolding settled
-  settled-goes =
-      let e : 0 + at ≡ at = omega arith in
-      skipped nodes (knownBy sets set) nodeMost at 0 ∙ ap (settledFrom nodes (knownBy sets set) (nodeMost - at) 0) e
+-- The place that a program reaches from a node on.
+pub settled-goes : (nodes sets : List ℕ) (set : States) (at : ℕ) → settled nodes sets set at ≡ goesTo (nodeAt nodes) (holdsAt nodes (knownBy sets set) deepest) at
+unfolding settled
+settled-goes nodes sets set at =
+    let e : 0 + at ≡ at = omega arith in
+    skipped (nodeAt nodes) (holdsAt nodes (knownBy sets set) deepest) nodeMost at 0 ∙ ap (settledFrom (nodeAt nodes) (holdsAt nodes (knownBy sets set) deepest) (nodeMost - at) 0) e
 
-  -- An action that it reaches stands at that node or behind it.
-  pub settled-forward : (i a : ℕ) → settled nodes sets set at ≡ Place.Act i a → (at ≤ i) × (i < nodeMost) × (nodeAt nodes i ≡ Node.Act a)
-  unfolding settled
-  settled-forward i a e = let r = forward nodes (knownBy sets set) nodeMost at 0 i a e in (omega arith, omega arith, r .2)
+-- An action that it reaches stands at that node or behind it.
+pub settled-forward : (nodes sets : List ℕ) (set : States) (at i a : ℕ) → settled nodes sets set at ≡ Place.Act i a → (at ≤ i) × (i < nodeMost)
+unfolding settled
+settled-forward nodes sets set at i a e = let r = forward (nodeAt nodes) (holdsAt nodes (knownBy sets set) deepest) nodeMost at 0 i a e in (omega arith, omega arith)
 
--- How far a node leads fits 16 bits.
-pub jump-small : (node : Node) (skip : ℕ) → node ≡ Node.Jump skip → Small node → skip < 65536
-unfolding Small
-jump-small node skip e s = subst Small e s
+-- What holds at a node, by what stands there.
+module _ (nodes : List ℕ) (isKnown : ℕ → Bool) where
+  pub holds-none : (left i : ℕ) → left ≡ 0 → false ≡ holdsAt nodes isKnown left i
+  unfolding holdsAt
+  holds-none left i e = rw e
 
-pub test-small : (node : Node) (k met unmet : ℕ) → node ≡ Node.Test k met unmet → Small node → (met < 65536) × (unmet < 65536)
-unfolding Small
-test-small node k met unmet e s = let t : (k < 65536) × (met < 65536) × (unmet < 65536) = subst Small e s in (t .1, t .2)
+  pub holds-by : (left i : ℕ) → 0 < left → (x : Node) → x ≡ nodeAt nodes i → formulaNode isKnown (λ skip. holdsAt nodes isKnown (left - 1) (i + 1 + skip)) x ≡ holdsAt nodes isKnown left i
+  unfolding holdsAt
+  holds-by (suc left) i h x e =
+      let l : suc left - 1 ≡ left = omega arith in
+      rw l (ap (formulaNode isKnown (λ skip. holdsAt nodes isKnown left (i + 1 + skip))) e)
+  holds-by zero i h x e = absurd (omega arith)
+
+  -- "And" and "or", by what holds of their parts.
+  module _ (left i size : ℕ) (h : 0 < left) where
+    first-part : holdsAt nodes isKnown (left - 1) (i + 1 + 0) ≡ holdsAt nodes isKnown (left - 1) (i + 1)
+    first-part = let e : i + 1 + 0 ≡ i + 1 = omega arith in ap (holdsAt nodes isKnown (left - 1)) e
+
+    pub all-holds : Node.All size ≡ nodeAt nodes i → (x y : Bool) → x ≡ holdsAt nodes isKnown (left - 1) (i + 1) → y ≡ holdsAt nodes isKnown (left - 1) (i + 1 + size) → (x && y) ≡ holdsAt nodes isKnown left i
+    unfolding formulaNode
+    all-holds e x y p q = rw (p, q, ← first-part) (holds-by left i h (Node.All size) e)
+
+    pub any-holds : Node.Any size ≡ nodeAt nodes i → (x y : Bool) → x ≡ holdsAt nodes isKnown (left - 1) (i + 1) → y ≡ holdsAt nodes isKnown (left - 1) (i + 1 + size) → (x || y) ≡ holdsAt nodes isKnown left i
+    unfolding formulaNode
+    any-holds e x y p q = rw (p, q, ← first-part) (holds-by left i h (Node.Any size) e)
+
+-- A node that isn't the end stands inside the memory.
+pub node-inside : (nodes : List ℕ) (i : ℕ) (x : Node) → x ≡ nodeAt nodes i → (x ≡ Node.End 0 → ⊥) → i < nodeMost
+node-inside nodes i x e n = go (ltb i nodeMost) refl
+  where
+    go : (b : Bool) → ltb i nodeMost ≡ b → i < nodeMost
+    go true t = ltb-true i nodeMost t
+    go false f = absurd (n (e ∙ sym (node-past nodes i (ltb-false i nodeMost f))))
+
+pub all-inside : (nodes : List ℕ) (i size : ℕ) → Node.All size ≡ nodeAt nodes i → i < nodeMost
+all-inside nodes i size e = node-inside nodes i (Node.All size) e (λ f. let z : _≡_ {A = ℕ} 0 1 = cc in omega arith)
+
+pub any-inside : (nodes : List ℕ) (i size : ℕ) → Node.Any size ≡ nodeAt nodes i → i < nodeMost
+any-inside nodes i size e = node-inside nodes i (Node.Any size) e (λ f. let z : _≡_ {A = ℕ} 0 1 = cc in omega arith)
+
+-- A node by its tag: none of a formula.
+none-of : (n : ℕ) → 4 ≤ n → OneOf (0 ∷ 1 ∷ 2 ∷ 3 ∷ []) n → ⊥
+none-of n h (inl e) = omega arith
+none-of n h (inr (inl e)) = omega arith
+none-of n h (inr (inr (inl e))) = omega arith
+none-of n h (inr (inr (inr e))) = omega arith
+
+pub no-formula : (isKnown part : ℕ → Bool) (x : Node) → OneOf (0 ∷ 1 ∷ 2 ∷ 3 ∷ []) (tagOf the-type x) → false ≡ formulaNode isKnown part x
+unfolding formulaNode
+no-formula isKnown part (Node.Act a number) t = refl
+no-formula isKnown part (Node.Branch met unmet) t = refl
+no-formula isKnown part (Node.Jump skip) t = refl
+no-formula isKnown part (Node.End count) t = refl
+no-formula isKnown part (Node.All size) t = absurd (none-of 4 (omega arith) t)
+no-formula isKnown part (Node.Any size) t = absurd (none-of 5 (omega arith) t)
+no-formula isKnown part (Node.Known k) t = absurd (none-of 6 (omega arith) t)
+no-formula isKnown part (Node.NotKnown k) t = absurd (none-of 7 (omega arith) t)
+
+-- A node of a formula is an end at which the goal fails.
+none-of-program : (n : ℕ) → n < 4 → OneOf (4 ∷ 5 ∷ 6 ∷ 7 ∷ []) n → ⊥
+none-of-program n h (inl e) = omega arith
+none-of-program n h (inr (inl e)) = omega arith
+none-of-program n h (inr (inr (inl e))) = omega arith
+none-of-program n h (inr (inr (inr e))) = omega arith
+
+pub no-program : (formula : ℕ → Bool) (x : Node) (i : ℕ) (onward : ℕ → Place) → OneOf (4 ∷ 5 ∷ 6 ∷ 7 ∷ []) (tagOf the-type x) → atNode formula x i onward ≡ Place.End false
+unfolding atNode
+no-program formula (Node.Act a number) i onward t = absurd (none-of-program 0 (omega arith) t)
+no-program formula (Node.Branch met unmet) i onward t = absurd (none-of-program 1 (omega arith) t)
+no-program formula (Node.Jump skip) i onward t = absurd (none-of-program 2 (omega arith) t)
+no-program formula (Node.End count) i onward t = absurd (none-of-program 3 (omega arith) t)
+no-program formula (Node.All size) i onward t = refl
+no-program formula (Node.Any size) i onward t = refl
+no-program formula (Node.Known k) i onward t = refl
+no-program formula (Node.NotKnown k) i onward t = refl
 
 -- What is known in a set: no state of it is outside the other set.
 module _ (sets : List ℕ) (set : States) (k : ℕ) where

@@ -3,36 +3,40 @@
 use Prim.Native.Nat.{ℕ, _+_, _<_, _≤_}
 use mathlib.Core.Path.{_≡_, refl, ap, sym, subst, _∙_}
 use mathlib.Core.List.{List, [], _∷_, _++_, map-append, append-assoc, append-nil, List·Memᴰ}
-use mathlib.Core.Logic.{_⊎_, inl, inr}
-use mathlib.Core.Bool.{Bool, true, false}
+use mathlib.Core.Logic.{_⊎_, inl, inr, ⊎-elim}
+use mathlib.Core.Bool.{Bool, true}
 use native.Mathlib.Omega.{arith}
 use lib.ListN.{length}
-use Rattle.lists.specs.Lists.{every, nonempty}
+use Rattle.lists.specs.Lists.{nonempty}
 use Rattle.states.specs.declared.States.{States}
 use Rattle.states.specs.Sets.{member, setOf, members}
 use Rattle.states.proofs.SetLaws.{members-mem, mem-members}
-use Rattle.format.specs.Syntax.{Objective, Epistemic, known, Program, end, act, branch, Sheet}
+use Rattle.format.specs.Syntax.{Objective, Epistemic, known, Program, end, act, branch, actionNodes, Sheet}
 use Rattle.format.specs.Truth.{holds}
-use Rattle.format.specs.Format.{accepted, reading}
+use Rattle.format.specs.Format.{gives, deepest, reading}
+use Rattle.format.specs.Standing.{Standing}
+use Rattle.format.proofs.FormatLaws.{NumbersBelow}
+use Rattle.format.proofs.ReaderLaws.{read-levels}
+use Rattle.format.proofs.StandingLaws.{Shallow, standing-shallow, accepted-standing}
 use Rattle.format.proofs.SheetLaws.{accepted-shape}
 use Rattle.semantics.specs.Runs.{Entry, entry, History, extended, replies, IsRun, lastState, knownAfter, holdsAfter, occurs}
 use Rattle.semantics.specs.Routine.{Policy, done, perform, policy, routine, Follows}
-use Rattle.semantics.specs.Replies.{leftAfter}
+use Rattle.semantics.specs.Replies.{leftAfter, toldBy, told}
 use Rattle.semantics.specs.Progression.{satisfies, startSet, nextSet, setAfter}
 use Rattle.semantics.proofs.ProgressionLaws.{possible-run, run-possible, holds-possible, occurs-possible, set-states}
 use Rattle.semantics.proofs.AcceptedLaws.{actions-most}
-use Rattle.semantics.proofs.ReplyLaws.{follows-none, left-next, left-more, next-follows}
+use Rattle.semantics.proofs.ReplyLaws.{follows-none, left-next, left-more, next-follows, told-left}
 use Rattle.routine.specs.declared.memory.Node.{Node}
-use Rattle.routine.specs.Memory.{nodeMost, setAt, nodeAt}
-use Rattle.routine.specs.Tables.{sheetStart, sheetNodes, sheetSets, sheetActionSets, programNodes, programSets, programAtoms, atomSets, tests, size}
-use Rattle.routine.proofs.SizeLaws.{nodes-length, program-sets-length}
+use Rattle.routine.specs.Memory.{setAt, nodeAt}
+use Rattle.routine.specs.Tables.{sheetStart, sheetNodes, sheetSets, sheetActionSets, atoms, atomSets, formulaSize, formulaNodes, size, programSets, programNodes, goalNode}
+use Rattle.routine.proofs.SizeLaws.{formula-length, atom-sets-length, nodes-length}
 use Rattle.routine.proofs.RoomLaws.{accepted-room, sheet-nodes-length}
-use Rattle.routine.proofs.TableLaws.{noStates, Tabled}
+use Rattle.routine.proofs.TableLaws.{noStates, noNode, Tabled}
 use Rattle.progression.specs.declared.place.Place.{Place}
-use Rattle.progression.specs.Machine.{knownBy, atNode, settled, stepped}
-use Rattle.progression.proofs.MachineLaws.{goesTo, goes-on, settled-goes, settled-forward}
+use Rattle.progression.specs.Machine.{placeOf, knownBy, holdsAt, settled, stepped}
+use Rattle.progression.proofs.MachineLaws.{goesTo, settled-goes, settled-forward}
 use Rattle.progression.proofs.PolicyLaws.{policies, allLeft, all-policy, all-begun, all-same, Begun}
-use Rattle.progression.proofs.PlaceLaws.{NodesAt, SetsAt, nodes-left, nodes-right, row-left, row-right, Settles, ProgramsAt, table-known, programs-settle, action-settles, goal-settles}
+use Rattle.progression.proofs.PlaceLaws.{Row, row-left, row-right, row-first, NodesAt, SetsAt, nodes-left, nodes-right, Settles, ProgramsAt, table-known, programs-settle, action-settles, goal-settles}
 use Rattle.progression.proofs.StepLaws.{tabled-step, members-possible}
 
 -- The set of possible states with one entry more.
@@ -44,7 +48,7 @@ after-more sheet set (d ∷ h) e = after-more sheet (nextSet sheet set d) h e
 module _ (sheet : Sheet) (heads nodes sets : List ℕ) where
   -- The programs ps stand from node i on, in the memory of the sheet's tables.
   abbrev pub StandsAt : (i : ℕ) → List Program → Type 0
-  StandsAt = ProgramsAt (nodeAt nodes) (setAt sets) (size (sheet .program)) (length (sheet .actions))
+  StandsAt = ProgramsAt nodes sets (1 + formulaSize (sheet .goal) + size (sheet .program)) (length (sheet .actions))
 
   -- The machine has come to node i with a set of states by a history: the history follows the routine, what is left of the routine stands from node i on, and the
   -- states of the set are those possible after the history.
@@ -72,56 +76,91 @@ module _ (sheet : Sheet) (heads nodes sets : List ℕ) where
     pub settles : settled nodes sets set i ≡ Place.End (holdsAfter sheet h (sheet .goal))
     pub nothing : leftAfter (routine sheet) (replies h) ≡ done
 
-  module _ (bytes : List ℕ) (read : reading bytes ≡ accepted sheet) (tabled : Tabled sheet heads nodes sets) where
+  module _ (bytes : List ℕ) (read : reading bytes ≡ gives sheet) (tabled : Tabled sheet heads nodes sets) where
     few : sheet .facts ≤ 8
     few = accepted-shape bytes sheet read .facts-most
 
-    abbrev goal-at : ℕ
-    goal-at = size (sheet .program)
+    -- Where the program and its end stand, and their sets.
+    abbrev program-at : ℕ
+    program-at = 1 + formulaSize (sheet .goal)
+
+    abbrev end-at : ℕ
+    end-at = program-at + size (sheet .program)
+
+    abbrev count : ℕ
+    count = length (sheet .actions)
 
     abbrev first-set : ℕ
     first-set = length (sheetActionSets sheet)
 
+    abbrev program-set : ℕ
+    program-set = first-set + atoms (sheet .goal)
+
+    abbrev jump : Node
+    jump = Node.Jump (formulaSize (sheet .goal))
+
     abbrev goalNodes : List Node
-    goalNodes = tests (sheet .goal) (first-set + programAtoms (sheet .program)) 0 1 ++ (Node.End true ∷ Node.End false ∷ [])
+    goalNodes = formulaNodes (sheet .goal) first-set
+
+    abbrev behindGoal : List Node
+    behindGoal = programNodes (sheet .program) program-set 0 ++ (Node.End (actionNodes (sheet .program)) ∷ [])
 
     -- The nodes and the sets of the sheet stand in the memory.
-    all-nodes : NodesAt (nodeAt nodes) (setAt sets) goal-at (length (sheet .actions)) 0 (programNodes (sheet .program) first-set ++ goalNodes)
+    all-nodes : NodesAt nodes sets end-at count 0 (jump ∷ (goalNodes ++ behindGoal))
     unfolding sheetNodes
     all-nodes = (
       λ j l. let e : 0 + j ≡ j = omega arith in ap (nodeAt nodes) e ∙ tabled .node-is j l,
       omega (arith, sheet-nodes-length sheet, accepted-room bytes sheet read .nodes-room),
     )
 
-    all-sets : SetsAt (nodeAt nodes) (setAt sets) goal-at (length (sheet .actions)) 0 (sheetActionSets sheet ++ (programSets (sheet .program) ++ atomSets (sheet .goal)))
+    later-nodes : NodesAt nodes sets end-at count goalNode (goalNodes ++ behindGoal)
+    later-nodes = nodes-right nodes sets end-at count 0 (jump ∷ []) (goalNodes ++ behindGoal) goalNode refl all-nodes
+
+    goal-nodes : Row (nodeAt nodes) noNode goalNode goalNodes
+    goal-nodes = nodes-left nodes sets end-at count goalNode goalNodes behindGoal later-nodes .0
+
+    program-nodes : NodesAt nodes sets end-at count program-at behindGoal
+    program-nodes = nodes-right nodes sets end-at count goalNode goalNodes behindGoal program-at (ap (λ (v : ℕ). 1 + v) (formula-length (sheet .goal) first-set)) later-nodes
+
+    end-node : NodesAt nodes sets end-at count end-at (Node.End (actionNodes (sheet .program)) ∷ [])
+    end-node = nodes-right nodes sets end-at count program-at (programNodes (sheet .program) program-set 0) _ end-at (ap (λ (v : ℕ). program-at + v) (nodes-length (sheet .program) program-set 0)) program-nodes
+
+    all-sets : SetsAt nodes sets end-at count 0 (sheetActionSets sheet ++ (atomSets (sheet .goal) ++ programSets (sheet .program)))
     unfolding sheetSets
     all-sets j l = let e : 0 + j ≡ j = omega arith in ap (setAt sets) e ∙ tabled .set-is j l
 
-    condition-sets : SetsAt (nodeAt nodes) (setAt sets) goal-at (length (sheet .actions)) first-set (programSets (sheet .program) ++ atomSets (sheet .goal))
-    condition-sets = row-right (setAt sets) noStates 0 (sheetActionSets sheet) (programSets (sheet .program) ++ atomSets (sheet .goal)) first-set (omega arith) all-sets
+    formula-sets : SetsAt nodes sets end-at count first-set (atomSets (sheet .goal) ++ programSets (sheet .program))
+    formula-sets = row-right (setAt sets) noStates 0 (sheetActionSets sheet) (atomSets (sheet .goal) ++ programSets (sheet .program)) first-set (omega arith) all-sets
 
-    goal-sets : SetsAt (nodeAt nodes) (setAt sets) goal-at (length (sheet .actions)) (first-set + programAtoms (sheet .program)) (atomSets (sheet .goal))
-    goal-sets = row-right (setAt sets) noStates first-set (programSets (sheet .program)) (atomSets (sheet .goal)) (first-set + programAtoms (sheet .program))
-        (omega (arith, program-sets-length (sheet .program))) condition-sets
+    standing : Standing bytes sheet
+    standing = accepted-standing bytes sheet read
 
-    goal-nodes : NodesAt (nodeAt nodes) (setAt sets) goal-at (length (sheet .actions)) goal-at goalNodes
-    goal-nodes = nodes-right (nodeAt nodes) (setAt sets) goal-at (length (sheet .actions)) 0 (programNodes (sheet .program) first-set) goalNodes goal-at
-        (omega (arith, nodes-length (sheet .program) first-set)) all-nodes
-
-    -- At the start.
+    -- At the start the jump leads over the goal to the program.
     pub start-reached : Reached [] 0 (sheetStart sheet)
-    unfolding Follows leftAfter routine policies sheetStart setAfter startSet ProgramsAt
+    unfolding Follows leftAfter routine policies sheetStart setAfter startSet ProgramsAt programNodes programSets size NumbersBelow Shallow
     start-reached = record {
       follows = follows-none (routine sheet);
-      left = sheet .program ∷ [];
+      left = end ∷ sheet .program ∷ [];
       stands = (
-        first-set,
-        goal-at,
-        nodes-left (nodeAt nodes) (setAt sets) goal-at (length (sheet .actions)) 0 (programNodes (sheet .program) first-set) goalNodes all-nodes,
-        row-left (setAt sets) noStates first-set (programSets (sheet .program)) (atomSets (sheet .goal)) condition-sets,
-        accepted-shape bytes sheet read .numbers,
-        inl (omega arith),
-        refl,
+        0,
+        0,
+        program-at,
+        ((λ j l. absurd (omega arith)), omega arith),
+        (λ j l. absurd (omega arith)),
+        tt,
+        tt,
+        inr (formulaSize (sheet .goal), row-first (nodeAt nodes) noNode 0 jump (goalNodes ++ behindGoal) (all-nodes .0), omega arith, refl),
+        (
+          program-set,
+          0,
+          end-at,
+          nodes-left nodes sets end-at count program-at (programNodes (sheet .program) program-set 0) _ program-nodes,
+          row-right (setAt sets) noStates first-set (atomSets (sheet .goal)) (programSets (sheet .program)) program-set (ap (λ (v : ℕ). first-set + v) (atom-sets-length (sheet .goal))) formula-sets,
+          accepted-shape bytes sheet read .numbers,
+          standing-shallow bytes (sheet .facts) (sheet .program) (standing .program-at) (standing .end-at) (standing .program-stands),
+          inl refl,
+          refl,
+        ),
       );
       policy-left = refl;
       set-is = refl;
@@ -137,14 +176,10 @@ module _ (sheet : Sheet) (heads nodes sets : List ℕ) where
     -- Where the states of a set are possible that were reached by a history.
     module _ (h : History) (i : ℕ) (set : States) (reached : Reached h i set) where
       abbrev at : ℕ → Place
-      at = goesTo nodes (knownBy sets set)
-
-      at-on : (j : ℕ) → j < nodeMost → at j ≡ atNode (λ k. every (member (setAt sets k)) (members set)) (nodeAt nodes j) j (λ skip. at (j + 1 + skip))
-      unfolding knownBy
-      at-on = goes-on nodes (knownBy sets set)
+      at = goesTo (nodeAt nodes) (holdsAt nodes (knownBy sets set) deepest)
 
       abbrev Settling : List Program → Type 0
-      Settling qs = Settles (nodeAt nodes) (setAt sets) goal-at (length (sheet .actions)) set at at-on i qs
+      Settling qs = Settles nodes sets end-at count set i qs
 
       -- What holds of the set is what holds after the history.
       pub same-truth : (f : Epistemic) → satisfies (members set) f ≡ holdsAfter sheet h f
@@ -153,7 +188,7 @@ module _ (sheet : Sheet) (heads nodes sets : List ℕ) where
       at-action : (a : ℕ) (rest : Program) (ps : List Program) → Settling (act a rest ∷ ps) → leftAfter (routine sheet) (replies h) ≡ policies sheet (act a rest ∷ ps) h → AtAction h i set
       unfolding policies policy
       at-action a rest ps s left =
-          let acts = action-settles (nodeAt nodes) (setAt sets) goal-at (length (sheet .actions)) set at at-on a rest ps (s .place) (s .stands) in
+          let acts = action-settles nodes sets end-at count set a rest ps (s .place) (s .stands) in
           let settles : settled nodes sets set i ≡ Place.Act (s .place) a = settled-goes nodes sets set i ∙ s .same ∙ acts .0 in
           let after : (ℕ → Policy) = λ r. policies sheet (rest ∷ ps) (extended h a r) in
           let next-left : ((r : ℕ) → leftAfter (routine sheet) (replies (extended h a r)) ≡ after r) =
@@ -182,7 +217,8 @@ module _ (sheet : Sheet) (heads nodes sets : List ℕ) where
       unfolding ProgramsAt
       at-end s left = record {
         settles = settled-goes nodes sets set i ∙ s .same ∙ ap at (s .stands)
-            ∙ goal-settles (nodeAt nodes) (setAt sets) goal-at (length (sheet .actions)) set at at-on (sheet .goal) (first-set + programAtoms (sheet .program)) goal-nodes goal-sets
+            ∙ goal-settles nodes sets end-at count set (sheet .goal) first-set _ (read-levels (sheet .facts) bytes deepest (standing .goal-at) (sheet .goal) (standing .program-at) (standing .goal-read)) end-node
+            goal-nodes (row-left (setAt sets) noStates first-set (atomSets (sheet .goal)) (programSets (sheet .program)) formula-sets)
             ∙ ap Place.End (same-truth (sheet .goal));
         nothing = left;
       }
@@ -199,8 +235,15 @@ module _ (sheet : Sheet) (heads nodes sets : List ℕ) where
       reached-place =
           by-left (allLeft (holdsAfter sheet h) (reached .left)) (all-begun (holdsAfter sheet h) (reached .left))
           (subst Settling (all-same (satisfies (members set)) (holdsAfter sheet h) same-truth (reached .left))
-          (programs-settle (nodeAt nodes) (setAt sets) goal-at (length (sheet .actions)) set at at-on (reached .left) i (reached .stands)))
+          (programs-settle nodes sets end-at count set (reached .left) i (reached .stands)))
           (reached .policy-left ∙ sym (all-policy sheet h (reached .left)))
+
+      -- The place means what "Next" tells after the replies of the history.
+      pub reached-told : placeOf (settled nodes sets set i) ≡ told sheet (replies h)
+      unfolding placeOf toldBy
+      reached-told =
+          ⊎-elim (λ (x : AtAction h i set). ap placeOf (x .settles) ∙ sym (told-left sheet h (reached .follows) (perform (x .action) (x .after)) (x .next)))
+          (λ (x : AtEnd h i set). ap placeOf (x .settles) ∙ sym (told-left sheet h (reached .follows) done (x .nothing))) reached-place
 
       -- Some run has the history exactly if some state is possible.
       pub reached-occurs : occurs sheet h ≡ nonempty (members set)

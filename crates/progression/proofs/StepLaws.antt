@@ -23,7 +23,7 @@ use Rattle.routine.specs.declared.memory.Head.{Head}
 use Rattle.routine.specs.Memory.{setAt}
 use Rattle.routine.specs.Tables.{rows}
 use Rattle.routine.proofs.TableLaws.{noStates, headOf, firstSet, Tabled, row-is, reply-is}
-use Rattle.progression.specs.Machine.{gathered, effect, stepped}
+use Rattle.progression.specs.Machine.{gathered, effect, keptBy, stepped}
 use Rattle.progression.proofs.GatherLaws.{effect-rows, effect-none}
 
 -- Where the sets of an action stand: its rows and its reply tables.
@@ -111,9 +111,8 @@ module _ (sheet : Sheet) (few : sheet .facts ≤ 8) (sets : List ℕ) (k : ℕ) 
   step-answered : (x : Action) → ((j : ℕ) → j < length (rows space x) → setAt sets (k + j) ≡ getD (rows space x) j noStates)
       → ((r : ℕ) → r < replyCount x → setAt sets (k + length (rows space x) + r) ≡ setOf (λ t. replyHolds x r t))
       → (r : ℕ)
-      → (if ltb r (replyCount x) then setOf (λ t. member (effect sets (headOf space k x) (setOf before)) t && member (setAt sets (k + length (rows space x) + r)) t) else setOf (λ t. false))
-      ≡ setOf (λ t. after x r t)
-  unfolding if_then_else_
+      → keptBy sets (headOf space k x) (effect sets (headOf space k x) (setOf before)) r ≡ setOf (λ t. after x r t)
+  unfolding if_then_else_ keptBy
   step-answered x row reply r = go (ltb r (replyCount x)) refl
     where
       go : (b : Bool) → ltb r (replyCount x) ≡ b
@@ -130,7 +129,7 @@ pub tabled-step : (sheet : Sheet) → sheet .facts ≤ 8 → (heads nodes sets :
     → (a : ℕ) → a < length (sheet .actions) → (r : ℕ) → stepped heads sets (setOf from) a r ≡ setOf (nextSet sheet from (entry a r))
 unfolding stepped nextSet step allowed
 tabled-step sheet few heads nodes sets tabled from inside a l r =
-    ap (λ (x : Head). if ltb r (x .count) then setOf (λ t. member (effect sets x (setOf from)) t && member (setAt sets (x .replies + r)) t) else setOf (λ t. false)) (tabled .head-is a l)
+    ap (λ (x : Head). keptBy sets x (effect sets x (setOf from)) r) (tabled .head-is a l)
     ∙ step-answered sheet few sets (firstSet (isState sheet) (sheet .actions) a) from inside (actionOf sheet a) (row-is sheet heads nodes sets tabled a l)
     (reply-is sheet heads nodes sets tabled a l) r
 

@@ -2,17 +2,24 @@
 use Prim.Native.Nat.{ℕ, zero, suc, _+_, _<_}
 use mathlib.Core.Path.{_≡_, refl}
 use mathlib.Core.List.{List, [], _∷_}
-use mathlib.Core.Bool.{Bool, true, false, _&&_}
+use mathlib.Core.Bool.{Bool, true, false, not, _&&_, _||_}
 use lib.Dec.{ltb}
 use Rattle.lists.specs.Lists.{if_then_else_, upFrom, below, every, exists}
 use Rattle.states.specs.declared.States.{States}
 use Rattle.states.specs.Sets.{member, setOf, members}
-use Rattle.format.specs.Syntax.{top, fact, negation, known, end, act, branch, change, probe, Sheet}
+use Rattle.format.specs.Syntax.{top, fact, negation, Epistemic, known, not-known, all-of, any-of, end, act, branch, change, probe, Sheet}
+use Rattle.format.specs.Format.{deepest}
+use Rattle.semantics.specs.Replies.{Told, to-do, at-end}
 use Rattle.routine.specs.declared.memory.Node.{Node}
 use Rattle.routine.specs.declared.memory.Head.{Head}
 use Rattle.routine.specs.Memory.{nodeMost, setAt, nodeAt, headAt}
-use Rattle.routine.specs.Tables.{sheetHeads, nodeCells, setWords, low}
+use Rattle.routine.specs.Tables.{goalNode, sheetHeads, nodeCells, setWords, low}
 use Rattle.progression.specs.declared.place.Place.{Place}
+
+-- What a place means: "the action to do, or that the routine is at its end and whether the goal holds". (Its node says where the program goes on.)
+unfoldable pub placeOf : Place → Told
+placeOf (Place.Act node action) = to-do action
+placeOf (Place.End holds) = at-end holds
 
 -- Whether every state of a set is in set k of a memory: "A formula is known after a history if it holds in the last state of every run with that history." (2013: in every state of the knowledge
 -- state.)
@@ -20,25 +27,47 @@ unfoldable pub knownBy : (sets : List ℕ) → States → (k : ℕ) → Bool
 unfolding every member setAt members
 knownBy sets set k = every (member (setAt sets k)) (members set)
 
--- A node is where the program settles, or it leads on, so many nodes further, by what is known.
-unfoldable pub atNode : (isKnown : ℕ → Bool) → Node → (i : ℕ) → (onward : (skip : ℕ) → Place) → Place
+-- What a node of a formula says, where `part` tells whether the part so many nodes behind the next one holds: "And, or, not read as usual." Other nodes are no formula.
+unfoldable pub formulaNode : (isKnown part : ℕ → Bool) → Node → Bool
+formulaNode isKnown part (Node.Known k) = isKnown k
+formulaNode isKnown part (Node.NotKnown k) = not (isKnown k)
+formulaNode isKnown part (Node.All size) = part 0 && part size
+formulaNode isKnown part (Node.Any size) = part 0 || part size
+formulaNode isKnown part (Node.Act a number) = false
+formulaNode isKnown part (Node.Branch met unmet) = false
+formulaNode isKnown part (Node.Jump skip) = false
+formulaNode isKnown part (Node.End count) = false
+
+-- Whether the formula at node i holds, by what is known. `left` levels are left: "Depth 16 is the deepest allowed." Where no formula stands, or a deeper one, nothing holds.
+unfoldable pub holdsAt : (nodes : List ℕ) (isKnown : ℕ → Bool) (left i : ℕ) → Bool
+unfolding formulaNode nodeAt
+holdsAt nodes isKnown zero i = false
+holdsAt nodes isKnown (suc left) i = formulaNode isKnown (λ skip. holdsAt nodes isKnown left (i + 1 + skip)) (nodeAt nodes i)
+
+-- A node is where the program settles, or it leads on, so many nodes further. `formula` tells whether the formula at a node holds: a branch goes by that behind it, the
+-- end by the goal. A node of a formula is an end at which the goal fails.
+unfoldable pub atNode : (formula : ℕ → Bool) → Node → (i : ℕ) → (onward : (skip : ℕ) → Place) → Place
 unfolding if_then_else_
-atNode isKnown (Node.Act a) i onward = Place.Act i a
-atNode isKnown (Node.Test k met unmet) i onward = onward (if isKnown k then met else unmet)
-atNode isKnown (Node.Jump skip) i onward = onward skip
-atNode isKnown (Node.End holds) i onward = Place.End holds
+atNode formula (Node.Act a number) i onward = Place.Act i a
+atNode formula (Node.Branch met unmet) i onward = onward (if formula (i + 1) then met else unmet)
+atNode formula (Node.Jump skip) i onward = onward skip
+atNode formula (Node.End count) i onward = Place.End (formula goalNode)
+atNode formula (Node.All size) i onward = Place.End false
+atNode formula (Node.Any size) i onward = Place.End false
+atNode formula (Node.Known k) i onward = Place.End false
+atNode formula (Node.NotKnown k) i onward = Place.End false
 
 -- Where the program settles from node i on, the first `skip` nodes being skipped: at the program's next action, or at its end. `left` nodes are left from node i on.
 -- Each node leads further forward, and behind the last is an end at which the goal fails.
-unfoldable pub settledFrom : (nodes : List ℕ) (isKnown : ℕ → Bool) (left skip i : ℕ) → Place
-unfolding atNode nodeAt
-settledFrom nodes isKnown zero skip i = Place.End false
-settledFrom nodes isKnown (suc left) (suc skip) i = settledFrom nodes isKnown left skip (suc i)
-settledFrom nodes isKnown (suc left) zero i = atNode isKnown (nodeAt nodes i) i (λ skip. settledFrom nodes isKnown left skip (suc i))
+unfoldable pub settledFrom : (node : ℕ → Node) (formula : ℕ → Bool) (left skip i : ℕ) → Place
+unfolding atNode
+settledFrom node formula zero skip i = Place.End false
+settledFrom node formula (suc left) (suc skip) i = settledFrom node formula left skip (suc i)
+settledFrom node formula (suc left) zero i = atNode formula (node i) i (λ skip. settledFrom node formula left skip (suc i))
 
 unfoldable pub settled : (nodes sets : List ℕ) → States → (at : ℕ) → Place
-unfolding settledFrom knownBy
-settled nodes sets set at = settledFrom nodes (knownBy sets set) nodeMost at 0
+unfolding settledFrom holdsAt nodeAt knownBy
+settled nodes sets set at = settledFrom (nodeAt nodes) (holdsAt nodes (knownBy sets set) deepest) nodeMost at 0
 
 -- An action node where it settles is one of the memory, and its action fits 16 bits.
 unfoldable pub Inside : Place → Type 0
@@ -50,18 +79,21 @@ unfoldable pub gathered : (sets : List ℕ) (first : ℕ) → States → States
 unfolding setOf exists member setAt upFrom
 gathered sets first set = setOf (λ t. exists (λ s. member set s && member (setAt sets (first + s)) t) (below 256))
 
--- The states possible after the effect of an action: if it has rows, those in the rows of the possible states, else the same.
+-- The effect of an action: the states in the rows of the possible states, if it has rows, else the same. ("after a change, one that the theory allows"; "after a probe, the same state".)
 unfoldable pub effect : (sets : List ℕ) → Head → States → States
 unfolding if_then_else_ gathered
 effect sets head set = if ltb (head .rows) (head .replies) then gathered sets (head .rows) set else set
 
--- The states possible after an action and its reply: first the effect, then those in which the reply is true. (2013: the states where the reply holds are kept.)
+-- The states of a set that are kept by a reply of an action: those in which it is true. (2013: the states where the reply holds are kept.) A reply that the action hasn't keeps none.
+unfoldable pub keptBy : (sets : List ℕ) → Head → States → (reply : ℕ) → States
+unfolding if_then_else_ setOf member setAt
+keptBy sets head set reply =
+    if ltb reply (head .count) then setOf (λ t. member set t && member (setAt sets (head .replies + reply)) t) else setOf (λ t. false)
+
+-- The states possible after an action and its reply: first the effect, then the reply.
 unfoldable pub stepped : (heads sets : List ℕ) → States → (action reply : ℕ) → States
-unfolding if_then_else_ setOf member effect setAt headAt
-stepped heads sets set action reply =
-    if ltb reply (headAt heads action .count) then
-    setOf (λ t. member (effect sets (headAt heads action) set) t && member (setAt sets (headAt heads action .replies + reply)) t)
-    else setOf (λ t. false)
+unfolding keptBy effect headAt
+stepped heads sets set action reply = keptBy sets (headAt heads action) (effect sets (headAt heads action) set) reply
 
 -- Examples, evaluated.
 -- One fact. Action 0 may change it, action 1 asks for it. If it is known, do action 0, else action 1, and then action 1 again. The goal: it is known.
@@ -74,28 +106,59 @@ small = record {
   program = branch (known (fact 0)) (act 0 end) (act 1 end) (act 1 end);
 }
 
--- Where both states are possible neither the fact nor its negation is known: the else-program is taken, which stands at node 3.
-else-taken : settled (nodeCells small) (setWords small) (low 3) 0 ≡ Place.Act 3 1
+-- Where both states are possible neither the fact nor its negation is known: the else-program is taken. Its node is 6: before it stand the jump over the goal, the goal,
+-- the branch, its condition, the then-program and the jump behind that.
+else-taken : settled (nodeCells small) (setWords small) (low 3) 0 ≡ Place.Act 6 1
 unfolding small nodeCells settled setWords
 else-taken = refl
 
--- Where the fact is known the then-program is taken; behind it the jump leads over the else-program to the rest at node 4.
-then-taken : settled (nodeCells small) (setWords small) (low 2) 0 ≡ Place.Act 1 0
+-- Where the fact is known the then-program is taken; behind it the jump leads over the else-program to the rest at node 7.
+then-taken : settled (nodeCells small) (setWords small) (low 2) 0 ≡ Place.Act 4 0
 unfolding small nodeCells settled setWords
 then-taken = refl
 
-rest-reached : settled (nodeCells small) (setWords small) (low 2) 2 ≡ Place.Act 4 1
+rest-reached : settled (nodeCells small) (setWords small) (low 2) 5 ≡ Place.Act 7 1
 unfolding small nodeCells settled setWords
 rest-reached = refl
 
 -- At the end the goal is judged by the set: it fails where one possible state denies the fact.
-goal-fails : settled (nodeCells small) (setWords small) (low 3) 5 ≡ Place.End false
+goal-fails : settled (nodeCells small) (setWords small) (low 3) 8 ≡ Place.End false
 unfolding small nodeCells settled setWords
 goal-fails = refl
 
-goal-holds : settled (nodeCells small) (setWords small) (low 2) 5 ≡ Place.End true
+goal-holds : settled (nodeCells small) (setWords small) (low 2) 8 ≡ Place.End true
 unfolding small nodeCells settled setWords
 goal-holds = refl
+
+-- The same sheet with another goal, judged at its end where the states of a set are possible.
+judgedBy : Epistemic → States → Place
+unfolding small nodeCells settled setWords
+judgedBy goal set =
+    let sheet : Sheet = record { facts = 1; actions = []; start = top; goal = goal; program = end } in
+    settled (nodeCells sheet) (setWords sheet) set 0
+
+-- "And" wants both parts, "or" one; the second part decides where the first doesn't.
+one-of-two : judgedBy (all-of (known top) (known (fact 0))) (low 3) ≡ Place.End false
+unfolding judgedBy
+one-of-two = refl
+
+other-of-two : judgedBy (any-of (known (fact 0)) (not-known (fact 0))) (low 3) ≡ Place.End true
+unfolding judgedBy
+other-of-two = refl
+
+-- A first part of several nodes is skipped as a whole.
+second-behind : judgedBy (all-of (any-of (known top) (known (fact 0))) (not-known (fact 0))) (low 2) ≡ Place.End false
+unfolding judgedBy
+second-behind = refl
+
+-- The effect of a change that may lead anywhere, on the one state possible; of a probe there is none.
+change-effect : effect (setWords small) (headAt (sheetHeads small) 0) (low 2) ≡ low 3
+unfolding small sheetHeads effect setWords headAt
+change-effect = refl
+
+probe-effect : effect (setWords small) (headAt (sheetHeads small) 1) (low 2) ≡ low 2
+unfolding small sheetHeads effect setWords headAt
+probe-effect = refl
 
 -- A reply that one possible state denies keeps the other; one that the action doesn't have keeps none.
 reply-kept : stepped (sheetHeads small) (setWords small) (low 3) 1 0 ≡ low 2

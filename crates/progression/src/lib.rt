@@ -5,4 +5,6 @@ mod steps;
 pub use place::Place;
 pub use place::known;
 pub use place::settle;
+pub use steps::effect;
+pub use steps::keep;
 pub use steps::step;

@@ -1,6 +1,5 @@
 // The states possible after an action and its reply.
 use routine::HEAD_CELLS;
-use routine::Head;
 use routine::SET_WORDS;
 use routine::head_at;
 use routine::set_at;
@@ -10,8 +9,8 @@ ghost use mathlib.Core.Bool.{_&&_};
 ghost use Prim.Native.Nat.{_+_, _<_};
 ghost use Rattle.lists.specs.Lists.{exists, below};
 ghost use Rattle.states.specs.Sets.{bit, member, setOf};
-ghost use Rattle.routine.specs.Memory.{setAt};
-ghost use Rattle.progression.specs.Machine.{gathered, effect as effectOf, stepped};
+ghost use Rattle.routine.specs.Memory.{setAt, headAt};
+ghost use Rattle.progression.specs.Machine.{gathered, effect as effectOf, keptBy, stepped};
 
 // The states that are in set `first` + b for some bit b of a word. (The bound keeps the sum from overflowing.)
 fn gather_word(sets: &[u64; SET_WORDS], first: usize, word: u64) -> States
@@ -40,15 +39,37 @@ fn gather(sets: &[u64; SET_WORDS], first: usize, set: States) -> States
     a.union(b).union(c.union(d))
 }
 
-// The states possible after the effect of an action with a head.
-fn effect(sets: &[u64; SET_WORDS], head: Head, set: States) -> States
-    requires { ⌜ head .rows < 65536 ⌝ }
-    ensures { λ r. ⌜ r ≡ effectOf (now (sets .entry)) head set ⌝ }
+// The states possible after the effect of an action, from those possible before.
+pub fn effect(
+    heads: &[u16; HEAD_CELLS],
+    sets: &[u64; SET_WORDS],
+    set: States,
+    action: usize,
+) -> States
+    ensures { λ r. ⌜ r ≡ effectOf (now (sets .entry)) (headAt (now (heads .entry)) action) set ⌝ }
 {
+    let head = head_at(heads, action);
     if head.rows < head.replies {
         return gather(sets, head.rows, set);
     }
     set
+}
+
+// The states of a set in which a reply of an action is true.
+pub fn keep(
+    heads: &[u16; HEAD_CELLS],
+    sets: &[u64; SET_WORDS],
+    set: States,
+    action: usize,
+    reply: usize,
+) -> States
+    ensures { λ r. ⌜ r ≡ keptBy (now (sets .entry)) (headAt (now (heads .entry)) action) set reply ⌝ }
+{
+    let head = head_at(heads, action);
+    if head.count <= reply {
+        return States::empty();
+    }
+    set.intersect(set_at(sets, head.replies + reply))
 }
 
 // The states possible after an action and its reply, from those possible before: first the effect, then the reply.
@@ -61,10 +82,6 @@ pub fn step(
 ) -> States
     ensures { λ r. ⌜ r ≡ stepped (now (heads .entry)) (now (sets .entry)) set action reply ⌝ }
 {
-    let head = head_at(heads, action);
-    if head.count <= reply {
-        return States::empty();
-    }
-    let after = effect(sets, head, set);
-    after.intersect(set_at(sets, head.replies + reply))
+    let after = effect(heads, sets, set, action);
+    keep(heads, sets, after, action, reply)
 }

@@ -4,7 +4,7 @@ use mathlib.Core.Path.{_≡_, refl, sym, ap, _∙_}
 use native.Mathlib.Omega.{arith}
 use lib.Dec.{eqb}
 use Rattle.lists.specs.Lists.{if_then_else_}
-use Rattle.format.specs.Format.{Answer, accepted, refused}
+use Rattle.format.specs.Format.{Answer, gives, refused}
 use Rattle.reader.specs.Answers.{numberOf, answerOf, withoutValue}
 use Rattle.reader.specs.declared.refusal.Refusal.{Refusal}
 use Rattle.reader.specs.declared.sheet.Acceptance.{Acceptance}
@@ -52,7 +52,7 @@ same-number r q e = sym (number-refusal r) ∙ ap refusalOf e ∙ number-refusal
 
 -- The answer of a meaning.
 saidOf : Answer (Unit {0}) → Acceptance
-saidOf (accepted u) = Acceptance.Accepted
+saidOf (gives u) = Acceptance.Accepted
 saidOf (refused k) = Acceptance.Refused (refusalOf k)
 
 said-answer : (a : Acceptance) → saidOf (answerOf a) ≡ a
@@ -65,12 +65,12 @@ pub same-answer : (a b : Acceptance) → answerOf a ≡ answerOf b → a ≡ b
 same-answer a b e = sym (said-answer a) ∙ ap saidOf e ∙ said-answer b
 
 -- What an answer without its value tells of the answer.
-pub was-accepted : {A : Type 0} (x : Answer A) → accepted tt ≡ withoutValue x → (a : A) × (x ≡ accepted a)
+pub was-accepted : {A : Type 0} (x : Answer A) → gives tt ≡ withoutValue x → (a : A) × (x ≡ gives a)
 unfolding withoutValue
-was-accepted (accepted a) e = (a, refl)
+was-accepted (gives a) e = (a, refl)
 was-accepted (refused k) e = let z : _≡_ {A = ℕ} 0 1 = cc in absurd (omega arith)
 
 pub was-refused : {A : Type 0} (x : Answer A) (k : ℕ) → refused k ≡ withoutValue x → x ≡ refused k
 unfolding withoutValue
-was-refused (accepted a) k e = let z : _≡_ {A = ℕ} 0 1 = cc in absurd (omega arith)
+was-refused (gives a) k e = let z : _≡_ {A = ℕ} 0 1 = cc in absurd (omega arith)
 was-refused (refused j) k e = cc

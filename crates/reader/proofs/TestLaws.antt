@@ -15,7 +15,7 @@ use Rattle.states.specs.Sets.{member, setOf, members}
 use Rattle.states.proofs.SetLaws.{member-setOf, set-cong, members-mem, mem-members}
 use Rattle.format.specs.Syntax.{Objective, bottom, Action, change, probe, replyCount}
 use Rattle.format.specs.Truth.{truth, holds, replyHolds}
-use Rattle.format.specs.Format.{accepted, refused, Read, got, fault, mapped, deepest, objective, objectives, changes, probes, kind, theoryOver, repliesOver, action, actionList, unless, leadsOn, hasReply, actionFaults, decided}
+use Rattle.format.specs.Format.{gives, refused, Read, got, fault, mapped, deepest, objective, objectives, changes, probes, kind, theoryOver, repliesOver, action, actionList, unless, leadsOn, hasReply, actionFaults, decided}
 use Rattle.format.proofs.ReaderLaws.{mapped-got, mapped-fault, mapped-same, mapped-twice, action-refused, action-change, action-probe, objectives-none, objectives-more, objectives-refused, actions-none, actions-more, actions-refused, actions-split}
 use Rattle.format.proofs.SheetLaws.{change-faults, probe-faults}
 use Rattle.reader.specs.Answers.{numberOf, statesIn}
@@ -120,7 +120,7 @@ module _ {A : Type 0} (tests : A → List ℕ) where
 
 -- The first test that fails decides.
 module _ {A : Type 0} where
-  passed-none : (xs : List ℕ) (a : A) {b : A} → decided xs a ≡ accepted b → (xs ≡ []) × (a ≡ b)
+  passed-none : (xs : List ℕ) (a : A) {b : A} → decided xs a ≡ gives b → (xs ≡ []) × (a ≡ b)
   unfolding decided
   passed-none [] a e = (refl, cc)
   passed-none (x ∷ xs) a e = let z : _≡_ {A = ℕ} 0 1 = cc in absurd (omega arith)
@@ -175,14 +175,14 @@ module _ (space : List ℕ) (n : ℕ) (bytes : List ℕ) (actions : List Action)
     left-fails h = sym (failed-first faults (flatMap (actionFaults space) (split .2)) (split .1) q (sym told ∙ ap passedTo h)) ∙ whole
 
   -- None is left: all passed.
-  pub left-none : (p k i : ℕ) → k ≤ i → Left space n bytes actions q p (k - i) → accepted p ≡ decided (flatMap (actionFaults space) actions) q
+  pub left-none : (p k i : ℕ) → k ≤ i → Left space n bytes actions q p (k - i) → gives p ≡ decided (flatMap (actionFaults space) actions) q
   unfolding decided flatMap
   left-none p k i all left =
       let l : 0 ≡ k - i = omega arith in
       let e : got [] p ≡ got (left .rest) q = sym (actions-none n bytes p) ∙ ap (λ (j : ℕ). actionList n j bytes p) l ∙ left .read in
       let none : [] ≡ left .rest = cc in
       let end : p ≡ q = cc in
-      ap (λ (j : ℕ). accepted j) end ∙ ap (λ (x : List Action). decided (flatMap (actionFaults space) x) q) none ∙ left .decide
+      ap (λ (j : ℕ). gives j) end ∙ ap (λ (x : List Action). decided (flatMap (actionFaults space) x) q) none ∙ left .decide
 
 -- The tests of an action, by its kind.
 module _ (space : List ℕ) (n : ℕ) (bytes : List ℕ) (p : ℕ) where
@@ -202,7 +202,7 @@ module _ (space : List ℕ) (n : ℕ) (bytes : List ℕ) (p : ℕ) where
 
 -- A test that passes or fails, by what the code found.
 module _ (number end : ℕ) {b test : Bool} (is : b ≡ test) where
-  pub test-passes : b ≡ true → accepted end ≡ decided (unless test number) end
+  pub test-passes : b ≡ true → gives end ≡ decided (unless test number) end
   unfolding decided unless
   test-passes e = ap (λ (x : Bool). decided (unless x number) end) (sym e ∙ is)
 

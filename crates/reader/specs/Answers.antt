@@ -5,7 +5,7 @@ use Rattle.states.specs.declared.States.{States}
 use Rattle.states.specs.Sets.{setOf}
 use Rattle.format.specs.Syntax.{Objective}
 use Rattle.format.specs.Truth.{inSpace, truth}
-use Rattle.format.specs.Format.{Answer, accepted, refused, Read, got, fault, Header, Kind, changes, probes, EpistemicNode, known-node, not-known-node, all-of-node, any-of-node, ProgramNode, end-node, act-node, branch-node}
+use Rattle.format.specs.Format.{Answer, gives, refused, onAccepted, Read, got, fault, Header, Kind, changes, probes, EpistemicNode, known-node, not-known-node, all-of-node, any-of-node, ProgramNode, end-node, act-node, branch-node}
 use Rattle.reader.specs.declared.refusal.Refusal.{Refusal}
 use Rattle.reader.specs.declared.formula.View.{View}
 use Rattle.reader.specs.declared.formula.Evaluated.{Evaluated}
@@ -38,13 +38,18 @@ numberOf Refusal.NoReply = 15
 -- The reader's answer: "accepted", or the number of the refusal.
 unfoldable pub answerOf : Acceptance → Answer (Unit {0})
 unfolding numberOf
-answerOf Acceptance.Accepted = accepted tt
+answerOf Acceptance.Accepted = gives tt
 answerOf (Acceptance.Refused r) = refused (numberOf r)
 
 -- An answer without its value.
 unfoldable pub withoutValue : {A : Type 0} → Answer A → Answer (Unit {0})
-withoutValue (accepted a) = accepted tt
-withoutValue (refused r) = refused r
+unfolding onAccepted
+withoutValue = onAccepted (λ a. gives tt)
+
+-- An answer as a number: 0 where something is accepted, else the number of the refusal.
+unfoldable pub numberFor : {A : Type 0} → Answer A → ℕ
+numberFor (gives a) = 0
+numberFor (refused r) = r
 
 -- What the header says, as a value of the code; with the states as a set.
 unfoldable pub headerOf : HeaderValue → Header

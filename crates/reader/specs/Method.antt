@@ -7,7 +7,7 @@ use Rattle.states.specs.declared.States.{States}
 use Rattle.states.specs.Sets.{setOf}
 use Rattle.format.specs.Syntax.{Objective, fact, new-fact, Sheet}
 use Rattle.format.specs.Truth.{holds}
-use Rattle.format.specs.Format.{Answer, accepted, refused, Read, got, fault, ProgramRead, decided}
+use Rattle.format.specs.Format.{Answer, gives, refused, Read, got, fault, ProgramRead, decided}
 use Rattle.reader.specs.Answers.{numberOf, statesIn}
 use Rattle.reader.specs.declared.bits.Field.{Field}
 use Rattle.reader.specs.declared.formula.View.{View}
@@ -38,7 +38,7 @@ tested tests (fault r) = refused r
 -- What the code's tests tell.
 unfoldable pub passedTo : Walked → Answer ℕ
 unfolding numberOf
-passedTo (Walked.To p) = accepted p
+passedTo (Walked.To p) = gives p
 passedTo (Walked.Refused r) = refused (numberOf r)
 
 -- What of a value is kept: nothing but where it ends; the nodes of a program; the states in which the start formula holds; those in which one of some formulas does.

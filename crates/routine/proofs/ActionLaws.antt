@@ -9,7 +9,7 @@ use lib.ListN.{length, getD, length-append, length-map}
 use Rattle.lists.specs.Lists.{upFrom}
 use Rattle.lists.proofs.ListLaws.{made-length}
 use Rattle.states.specs.declared.States.{States}
-use Rattle.states.specs.Sets.{member, setOf}
+use Rattle.states.specs.Sets.{words, member, setOf}
 use Rattle.states.proofs.SetLaws.{member-setOf, set-cong}
 use Rattle.format.specs.Syntax.{Objective, bottom, Action, change, probe, replyCount}
 use Rattle.format.specs.Truth.{truth, holds, replyHolds}
@@ -22,7 +22,7 @@ use Rattle.reader.specs.declared.formula.View.{View}
 use Rattle.reader.specs.declared.nodes.ActionKind.{ActionKind}
 use Rattle.reader.specs.declared.nodes.ReplyTotal.{ReplyTotal}
 use Rattle.routine.specs.declared.actions.Laid.{Laid}
-use Rattle.routine.specs.Memory.{write, words}
+use Rattle.routine.specs.Memory.{write}
 use Rattle.routine.specs.Tables.{rows, actionSets, headCells}
 use Rattle.routine.specs.Filling.{Replies, ActionRoom, ActionWritten}
 use Rattle.routine.proofs.WriteLaws.{written-on, words-four, spread-step, spread-append, spread-length}
@@ -118,7 +118,7 @@ module _ (space : States) (f : Objective) where
   pub rows-next : (k i : ℕ) (after then : List ℕ) (set : States) → i < 256 → set ≡ rowOf space f i → then ≡ write after (4 * (k + i)) (words set)
       → write then (4 * (k + (i + 1))) (flatMap words (rowsFrom space f (i + 1))) ≡ write after (4 * (k + i)) (flatMap words (rowsFrom space f i))
   rows-next k i after then set l e h =
-      spread-step words words-four after then (k + i) (k + (i + 1)) (rowOf space f i) (rowsFrom space f (i + 1))
+      spread-step 4 words words-four after then (k + i) (k + (i + 1)) (rowOf space f i) (rowsFrom space f (i + 1))
       (h ∙ ap (λ (x : States). write after (4 * (k + i)) (words x)) e) (omega arith)
       ∙ ap (λ (us : List States). write after (4 * (k + i)) (flatMap words us)) (sym (rows-split i l))
 
@@ -171,7 +171,7 @@ module _ (bytes : List ℕ) (n m k : ℕ) (before : List ℕ) (q : ℕ) (fs : Li
               left = left;
               number = omega arith;
               stand = rw (e .1) (h .2);
-              whole = spread-step words words-four after then (k + i) (k + (i + 1)) (tableOf f) (map tableOf left)
+              whole = spread-step 4 words words-four after then (k + i) (k + (i + 1)) (tableOf f) (map tableOf left)
                   (t ∙ ap (λ (x : States). write after (4 * (k + i)) (words x)) (e .0)) (omega arith) ∙ w;
             },
       )
@@ -243,7 +243,7 @@ module _ (space : States) where
           h ∙ ap (λ (j : ℕ). write heads (3 * a) (k ∷ (k + j) ∷ 1 ∷ [])) (sym (rows-count space f)),
           written-on sets middle sets′ (4 * k) (4 * (k + 256)) (flatMap words (rows (member space) (change f))) (words (setOf (λ s. true))) r
               (w ∙ ap (λ (z : States). write middle (4 * (k + 256)) (words z)) u)
-              (omega (arith, spread-length words words-four (rows (member space) (change f)), rows-count space f))
+              (omega (arith, spread-length 4 words words-four (rows (member space) (change f)), rows-count space f))
               ∙ ap (λ (us : List ℕ). write sets (4 * k) us)
               (sym (ap (flatMap words) (change-sets f) ∙ spread-append words (rows (member space) (change f)) (setOf (λ s. true) ∷ []))),
         )
@@ -319,7 +319,7 @@ module _ (bytes : List ℕ) (n : ℕ) (space : States) (count : ℕ) (heads sets
                         ∙ u;
                     sets-whole =
                         written-on sets′ sets″ (write sets″ (4 * r .set) (flatMap words rest)) (4 * k) (4 * r .set) (flatMap words mine) (flatMap words rest) (w .2) refl
-                        (omega (arith, spread-length words words-four mine, j))
+                        (omega (arith, spread-length 4 words words-four mine, j))
                         ∙ ap (λ (us : List ℕ). write sets′ (4 * k) us) (sym (spread-append words mine rest)) ∙ v;
                   };
             }

@@ -1,24 +1,24 @@
 -- The numbers of prepared tables are of the sizes of the memory: those of heads and nodes fit 16 bits, those of sets 64, and the memory keeps its length. Assumes nothing.
-use Prim.Native.Nat.{ℕ, zero, suc, _+_, _^_, _≤_, _<_}
+use Prim.Native.Nat.{ℕ, zero, suc, _+_, _*_, _^_, _≤_, _<_}
 use mathlib.Core.Path.{_≡_, refl, sym, subst, _∙_}
 use mathlib.Core.Logic.{⊎-elim}
 use mathlib.Core.List.{List, [], _∷_, _++_, map, flatMap, List·Memᴰ, List·Memᴰ·head, List·Memᴰ·tail, List·Memᴰ·not-nil, List·Memᴰ·cases-cons, List·Memᴰ·append-cases}
-use mathlib.Core.Bool.{Bool, true, false, _&&_}
+use mathlib.Core.Bool.{Bool, _&&_}
 use native.Mathlib.Omega.{arith}
 use lib.ListN.{length, set, length-append}
 use Rattle.lists.specs.Lists.{below}
 use Rattle.lists.proofs.ListLaws.{flat-mem}
 use Rattle.states.specs.declared.States.{States}
-use Rattle.states.specs.Sets.{setOf}
+use Rattle.states.specs.Sets.{words, setOf}
 use Rattle.states.proofs.SetLaws.{Fitting, fitting-setOf}
-use Rattle.format.specs.Syntax.{Epistemic, known, not-known, all-of, any-of, Program, end, act, branch, Action, change, probe, replyCount, Sheet}
+use Rattle.format.specs.Syntax.{Epistemic, known, not-known, all-of, any-of, Program, end, act, branch, actionNodes, Action, change, probe, replyCount, Sheet}
 use Rattle.format.specs.Truth.{isState, truth, holds, replyHolds}
-use Rattle.format.specs.Format.{Answer, accepted, refused, reading}
+use Rattle.format.specs.Format.{Answer, gives, refused, mostActs, reading}
 use Rattle.format.proofs.FormatLaws.{NumbersBelow}
 use Rattle.format.proofs.SheetLaws.{FewReplies, accepted-shape}
 use Rattle.routine.specs.declared.memory.Node.{Node}
-use Rattle.routine.specs.Memory.{write, words, cells, Small}
-use Rattle.routine.specs.Tables.{rows, replyTables, actionSets, headCells, atoms, atomSets, tests, size, programAtoms, programSets, programNodes, sheetActionSets, sheetSets, sheetNodes, sheetHeads, sheetStart, setWords, nodeCells, prepared}
+use Rattle.routine.specs.Memory.{write, cells, Small, headMost, nodeMost, setMost}
+use Rattle.routine.specs.Tables.{rows, replyTables, actionSets, headCells, atoms, atomSets, formulaSize, formulaNodes, size, programAtoms, programSets, programNodes, sheetActionSets, sheetSets, sheetNodes, sheetHeads, sheetStart, setWords, nodeCells, prepared}
 use Rattle.routine.proofs.WriteLaws.{write-length}
 use Rattle.routine.proofs.RoomLaws.{action-length, accepted-room}
 
@@ -58,10 +58,10 @@ module _ (P : ℕ → Type 0) where
   each-write memory i [] h k = h
   each-write memory i (x ∷ xs) h k = each-write (set memory i x) (i + 1) xs (each-set P memory i x h (k x (List·Memᴰ·head refl))) (λ a m. k a (List·Memᴰ·tail m))
 
-  pub each-prepared : (has : Sheet → List ℕ) (answer : Answer Sheet) (memory : List ℕ) → Each P memory → ((sheet : Sheet) → answer ≡ accepted sheet → Each P (has sheet))
+  pub each-prepared : (has : Sheet → List ℕ) (answer : Answer Sheet) (memory : List ℕ) → Each P memory → ((sheet : Sheet) → answer ≡ gives sheet → Each P (has sheet))
       → Each P (prepared has answer memory)
   unfolding prepared
-  each-prepared has (accepted sheet) memory h k = each-write memory 0 (has sheet) h (k sheet refl)
+  each-prepared has (gives sheet) memory h k = each-write memory 0 (has sheet) h (k sheet refl)
   each-prepared has (refused r) memory h k = h
 
 -- A number fits 16 bits, or 64.
@@ -72,7 +72,7 @@ abbrev pub Fits64 : ℕ → Type 0
 Fits64 n = n < 2 ^ 64
 
 -- The heads of actions whose sets have room and whose replies are few.
-heads-fit : (space : ℕ → Bool) (k : ℕ) (actions : List Action) → Each FewReplies actions → k + length (flatMap (actionSets space) actions) ≤ 10240 → Each Fits16 (headCells space k actions)
+heads-fit : (space : ℕ → Bool) (k : ℕ) (actions : List Action) → Each FewReplies actions → k + length (flatMap (actionSets space) actions) ≤ setMost → Each Fits16 (headCells space k actions)
 unfolding headCells flatMap
 heads-fit space k [] few room = each-none Fits16
 heads-fit space k (a ∷ later) few room =
@@ -85,32 +85,36 @@ heads-fit space k (a ∷ later) few room =
     (each-more Fits16 (replyCount a) rest (omega (arith, few a (List·Memᴰ·head refl) .1))
     (heads-fit space k′ later (λ b m. few b (List·Memᴰ·tail m)) (omega (arith, all)))))
 
--- Four numbers that have a property.
-each-four : (P : ℕ → Type 0) (x y z w : ℕ) → P x → P y → P z → P w → Each P (x ∷ y ∷ z ∷ w ∷ [])
-each-four P x y z w a b c d = each-more P x _ a (each-more P y _ b (each-more P z _ c (each-more P w [] d (each-none P))))
+-- Three or four numbers that have a property.
+each-three : (P : ℕ → Type 0) (x y z : ℕ) → P x → P y → P z → Each P (x ∷ y ∷ z ∷ [])
+each-three P x y z a b c = each-more P x _ a (each-more P y _ b (each-more P z [] c (each-none P)))
 
--- The four numbers of a node that is small.
+each-four : (P : ℕ → Type 0) (x y z w : ℕ) → P x → P y → P z → P w → Each P (x ∷ y ∷ z ∷ w ∷ [])
+each-four P x y z w a b c d = each-more P x _ a (each-three P y z w b c d)
+
+-- The three numbers of a node that is small.
 cells-fit : (node : Node) → Small node → Each Fits16 (cells node)
 unfolding cells Small
-cells-fit (Node.Act a) h = each-four Fits16 0 a 0 0 (omega arith) h (omega arith) (omega arith)
-cells-fit (Node.Test k met unmet) h = each-four Fits16 1 k met unmet (omega arith) (h .0) (h .1) (h .2)
-cells-fit (Node.Jump skip) h = each-four Fits16 2 0 skip 0 (omega arith) (omega arith) h (omega arith)
-cells-fit (Node.End true) h = each-four Fits16 3 1 0 0 (omega arith) (omega arith) (omega arith) (omega arith)
-cells-fit (Node.End false) h = each-four Fits16 3 0 0 0 (omega arith) (omega arith) (omega arith) (omega arith)
+cells-fit (Node.Act a number) h = each-three Fits16 0 a number (omega arith) (h .0) (h .1)
+cells-fit (Node.Branch met unmet) h = each-three Fits16 1 met unmet (omega arith) (h .0) (h .1)
+cells-fit (Node.Jump skip) h = each-three Fits16 2 skip 0 (omega arith) h (omega arith)
+cells-fit (Node.All size) h = each-three Fits16 3 size 0 (omega arith) h (omega arith)
+cells-fit (Node.Any size) h = each-three Fits16 4 size 0 (omega arith) h (omega arith)
+cells-fit (Node.Known k) h = each-three Fits16 5 k 0 (omega arith) h (omega arith)
+cells-fit (Node.NotKnown k) h = each-three Fits16 6 k 0 (omega arith) h (omega arith)
+cells-fit (Node.End count) h = each-three Fits16 7 count 0 (omega arith) h (omega arith)
 
--- The tests of a formula whose sets are few, and which goes on near by.
-tests-small : (f : Epistemic) (k met unmet : ℕ) → k + atoms f ≤ 10240 → atoms f + met ≤ 2048 → atoms f + unmet ≤ 2048 → Each Small (tests f k met unmet)
-unfolding tests atoms Small
-tests-small (known f) k met unmet h m u = each-more Small (Node.Test k met unmet) [] (omega arith, omega arith, omega arith) (each-none Small)
-tests-small (not-known f) k met unmet h m u = each-more Small (Node.Test k unmet met) [] (omega arith, omega arith, omega arith) (each-none Small)
-tests-small (all-of f g) k met unmet h m u =
-    each-append Small (tests f k 0 (atoms g + unmet)) (tests g (k + atoms f) met unmet)
-    (tests-small f k 0 (atoms g + unmet) (omega arith) (omega arith) (omega arith))
-    (tests-small g (k + atoms f) met unmet (omega arith) (omega arith) (omega arith))
-tests-small (any-of f g) k met unmet h m u =
-    each-append Small (tests f k (atoms g + met) 0) (tests g (k + atoms f) met unmet)
-    (tests-small f k (atoms g + met) 0 (omega arith) (omega arith) (omega arith))
-    (tests-small g (k + atoms f) met unmet (omega arith) (omega arith) (omega arith))
+-- The nodes of a formula whose nodes and sets have room.
+formula-small : (f : Epistemic) (k : ℕ) → formulaSize f ≤ nodeMost → k + atoms f ≤ setMost → Each Small (formulaNodes f k)
+unfolding formulaNodes formulaSize atoms Small
+formula-small (known f) k nodes sets = each-more Small (Node.Known k) [] (omega arith) (each-none Small)
+formula-small (not-known f) k nodes sets = each-more Small (Node.NotKnown k) [] (omega arith) (each-none Small)
+formula-small (all-of f g) k nodes sets =
+    each-more Small (Node.All (formulaSize f)) _ (omega arith)
+    (each-append Small (formulaNodes f k) (formulaNodes g (k + atoms f)) (formula-small f k (omega arith) (omega arith)) (formula-small g (k + atoms f) (omega arith) (omega arith)))
+formula-small (any-of f g) k nodes sets =
+    each-more Small (Node.Any (formulaSize f)) _ (omega arith)
+    (each-append Small (formulaNodes f k) (formulaNodes g (k + atoms f)) (formula-small f k (omega arith) (omega arith)) (formula-small g (k + atoms f) (omega arith) (omega arith)))
 
 -- Action numbers that are below one number are below a greater one.
 numbers-more : (i j : ℕ) → i ≤ j → (p : Program) → NumbersBelow i p → NumbersBelow j p
@@ -119,21 +123,25 @@ numbers-more i j l end h = tt
 numbers-more i j l (act a rest) h = (omega (arith, h .0), numbers-more i j l rest (h .1))
 numbers-more i j l (branch f y z rest) h = (numbers-more i j l y (h .0), numbers-more i j l z (h .1), numbers-more i j l rest (h .2))
 
--- The nodes of a program whose nodes and sets have room.
-nodes-small : (p : Program) (k : ℕ) → NumbersBelow 31 p → size p ≤ 2048 → k + programAtoms p ≤ 10240 → Each Small (programNodes p k)
-unfolding programNodes size programAtoms NumbersBelow Small
-nodes-small end k numbers nodes sets = each-none Small
-nodes-small (act a rest) k numbers nodes sets =
-    each-more Small (Node.Act a) (programNodes rest k) (omega (arith, numbers .0)) (nodes-small rest k (numbers .1) (omega arith) sets)
-nodes-small (branch f y z rest) k numbers nodes sets =
+-- The nodes of a program whose nodes, sets and actions have room.
+nodes-small : (p : Program) (k c : ℕ) → NumbersBelow headMost p → size p ≤ nodeMost → k + programAtoms p ≤ setMost → c + actionNodes p ≤ mostActs → Each Small (programNodes p k c)
+unfolding programNodes size programAtoms actionNodes NumbersBelow Small
+nodes-small end k c numbers nodes sets acts = each-none Small
+nodes-small (act a rest) k c numbers nodes sets acts =
+    each-more Small (Node.Act a c) (programNodes rest k (c + 1)) (omega (arith, numbers .0), omega arith) (nodes-small rest k (c + 1) (numbers .1) (omega arith) sets (omega arith))
+nodes-small (branch f y z rest) k c numbers nodes sets acts =
     let k₁ = k + atoms f in
     let k₂ = k + atoms f + programAtoms y in
     let k₃ = k + atoms f + programAtoms y + programAtoms z in
-    let later = programNodes z k₂ ++ programNodes rest k₃ in
-    each-append Small (tests f k 0 (suc (size y))) (programNodes y k₁ ++ (Node.Jump (size z) ∷ later)) (tests-small f k 0 (suc (size y)) (omega arith) (omega arith) (omega arith))
-    (each-append Small (programNodes y k₁) (Node.Jump (size z) ∷ later) (nodes-small y k₁ (numbers .0) (omega arith) (omega arith))
+    let c₁ = c + actionNodes y in
+    let c₂ = c + actionNodes y + actionNodes z in
+    let later = programNodes z k₂ c₁ ++ programNodes rest k₃ c₂ in
+    each-more Small (Node.Branch (formulaSize f) (formulaSize f + suc (size y))) _ (omega arith, omega arith)
+    (each-append Small (formulaNodes f k) (programNodes y k₁ c ++ (Node.Jump (size z) ∷ later)) (formula-small f k (omega arith) (omega arith))
+    (each-append Small (programNodes y k₁ c) (Node.Jump (size z) ∷ later) (nodes-small y k₁ c (numbers .0) (omega arith) (omega arith) (omega arith))
     (each-more Small (Node.Jump (size z)) later (omega arith)
-    (each-append Small (programNodes z k₂) (programNodes rest k₃) (nodes-small z k₂ (numbers .1) (omega arith) (omega arith)) (nodes-small rest k₃ (numbers .2) (omega arith) (omega arith)))))
+    (each-append Small (programNodes z k₂ c₁) (programNodes rest k₃ c₂) (nodes-small z k₂ c₁ (numbers .1) (omega arith) (omega arith) (omega arith))
+    (nodes-small rest k₃ c₂ (numbers .2) (omega arith) (omega arith) (omega arith))))))
 
 -- The four words of a set that fits.
 words-fit : (set : States) → Fitting set → Each Fits64 (words set)
@@ -169,26 +177,27 @@ program-sets-fit (branch f y z rest) =
     (each-append Fitting (programSets z) (programSets rest) (program-sets-fit z) (program-sets-fit rest)))
 
 -- The numbers of the heads of an accepted sheet.
-sheet-heads-fit : (bytes : List ℕ) (sheet : Sheet) → reading bytes ≡ accepted sheet → Each Fits16 (sheetHeads sheet)
+sheet-heads-fit : (bytes : List ℕ) (sheet : Sheet) → reading bytes ≡ gives sheet → Each Fits16 (sheetHeads sheet)
 unfolding sheetHeads sheetActionSets
 sheet-heads-fit bytes sheet e = heads-fit (isState sheet) 0 (sheet .actions) (accepted-shape bytes sheet e .replies-few) (omega (arith, accepted-room bytes sheet e .actions-room))
 
 -- The nodes of an accepted sheet, and their numbers.
-sheet-nodes-small : (bytes : List ℕ) (sheet : Sheet) → reading bytes ≡ accepted sheet → Each Small (sheetNodes sheet)
+sheet-nodes-small : (bytes : List ℕ) (sheet : Sheet) → reading bytes ≡ gives sheet → Each Small (sheetNodes sheet)
 unfolding sheetNodes Small
 sheet-nodes-small bytes sheet e =
     let room = accepted-room bytes sheet e in
     let shape = accepted-shape bytes sheet e in
     let k = length (sheetActionSets sheet) in
-    let l = k + programAtoms (sheet .program) in
-    let ends : List Node = Node.End true ∷ Node.End false ∷ [] in
-    each-append Small (programNodes (sheet .program) k) (tests (sheet .goal) l 0 1 ++ ends)
-    (nodes-small (sheet .program) k (numbers-more (length (sheet .actions)) 31 (shape .actions-most) (sheet .program) (shape .numbers)) (omega (arith, room .nodes-room)) (omega (arith, room .sets-room)))
-    (each-append Small (tests (sheet .goal) l 0 1) ends
-    (tests-small (sheet .goal) l 0 1 (omega (arith, room .sets-room)) (omega (arith, room .nodes-room)) (omega (arith, room .nodes-room)))
-    (each-more Small (Node.End true) (Node.End false ∷ []) tt (each-more Small (Node.End false) [] tt (each-none Small))))
+    let l = k + atoms (sheet .goal) in
+    let last : List Node = Node.End (actionNodes (sheet .program)) ∷ [] in
+    each-more Small (Node.Jump (formulaSize (sheet .goal))) _ (omega (arith, room .nodes-room))
+    (each-append Small (formulaNodes (sheet .goal) k) (programNodes (sheet .program) l 0 ++ last) (formula-small (sheet .goal) k (omega (arith, room .nodes-room)) (omega (arith, room .sets-room)))
+    (each-append Small (programNodes (sheet .program) l 0) last
+    (nodes-small (sheet .program) l 0 (numbers-more (length (sheet .actions)) headMost (shape .actions-most) (sheet .program) (shape .numbers)) (omega (arith, room .nodes-room))
+    (omega (arith, room .sets-room)) (omega (arith, shape .acts-most)))
+    (each-more Small (Node.End (actionNodes (sheet .program))) [] (omega (arith, shape .acts-most)) (each-none Small))))
 
-sheet-nodes-fit : (bytes : List ℕ) (sheet : Sheet) → reading bytes ≡ accepted sheet → Each Fits16 (nodeCells sheet)
+sheet-nodes-fit : (bytes : List ℕ) (sheet : Sheet) → reading bytes ≡ gives sheet → Each Fits16 (nodeCells sheet)
 unfolding nodeCells
 sheet-nodes-fit bytes sheet e = each-flat Fits16 cells (sheetNodes sheet) (λ node m. cells-fit node (sheet-nodes-small bytes sheet e node m))
 
@@ -196,9 +205,9 @@ sheet-nodes-fit bytes sheet e = each-flat Fits16 cells (sheetNodes sheet) (λ no
 sheet-sets-fit : (sheet : Sheet) → Each Fitting (sheetSets sheet)
 unfolding sheetSets sheetActionSets
 sheet-sets-fit sheet =
-    each-append Fitting (sheetActionSets sheet) (programSets (sheet .program) ++ atomSets (sheet .goal))
+    each-append Fitting (sheetActionSets sheet) (atomSets (sheet .goal) ++ programSets (sheet .program))
     (each-flat Fitting (actionSets (isState sheet)) (sheet .actions) (λ a m. action-sets-fit (isState sheet) a))
-    (each-append Fitting (programSets (sheet .program)) (atomSets (sheet .goal)) (program-sets-fit (sheet .program)) (atom-sets-fit (sheet .goal)))
+    (each-append Fitting (atomSets (sheet .goal)) (programSets (sheet .program)) (atom-sets-fit (sheet .goal)) (program-sets-fit (sheet .program)))
 
 set-words-fit : (sheet : Sheet) → Each Fits64 (setWords sheet)
 unfolding setWords
@@ -207,7 +216,7 @@ set-words-fit sheet = each-flat Fits64 words (sheetSets sheet) (λ set m. words-
 -- A memory keeps its length.
 pub prepared-length : (has : Sheet → List ℕ) (answer : Answer Sheet) (memory : List ℕ) → length (prepared has answer memory) ≡ length memory
 unfolding prepared
-prepared-length has (accepted sheet) memory = write-length memory 0 (has sheet)
+prepared-length has (gives sheet) memory = write-length memory 0 (has sheet)
 prepared-length has (refused r) memory = refl
 
 -- The tables after a sheet was prepared, whatever the sheet, fit the numbers of the memory.
@@ -222,13 +231,13 @@ module _ (bytes : List ℕ) where
   prepared-sets-fit sets h = each-prepared Fits64 setWords (reading bytes) sets h (λ sheet e. set-words-fit sheet)
 
   -- They are as long as before.
-  pub prepared-heads-length : (heads : List ℕ) → length heads ≡ 93 → length (prepared sheetHeads (reading bytes) heads) ≡ 93
+  pub prepared-heads-length : (heads : List ℕ) → length heads ≡ 3 * headMost → length (prepared sheetHeads (reading bytes) heads) ≡ 3 * headMost
   prepared-heads-length heads h = prepared-length sheetHeads (reading bytes) heads ∙ h
 
-  pub prepared-nodes-length : (nodes : List ℕ) → length nodes ≡ 8192 → length (prepared nodeCells (reading bytes) nodes) ≡ 8192
+  pub prepared-nodes-length : (nodes : List ℕ) → length nodes ≡ 3 * nodeMost → length (prepared nodeCells (reading bytes) nodes) ≡ 3 * nodeMost
   prepared-nodes-length nodes h = prepared-length nodeCells (reading bytes) nodes ∙ h
 
-  pub prepared-sets-length : (sets : List ℕ) → length sets ≡ 40960 → length (prepared setWords (reading bytes) sets) ≡ 40960
+  pub prepared-sets-length : (sets : List ℕ) → length sets ≡ 4 * setMost → length (prepared setWords (reading bytes) sets) ≡ 4 * setMost
   prepared-sets-length sets h = prepared-length setWords (reading bytes) sets ∙ h
 
 -- The start set of a sheet fits.

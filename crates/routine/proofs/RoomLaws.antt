@@ -2,19 +2,21 @@
 use Prim.Native.Nat.{ℕ, _+_, _*_, _≤_}
 use mathlib.Core.Path.{_≡_, refl, ap, _∙_}
 use mathlib.Core.List.{List, [], _∷_, _++_, flatMap, List·Memᴰ, List·Memᴰ·head, List·Memᴰ·tail}
-use mathlib.Core.Bool.{Bool, true, false, _&&_}
+use mathlib.Core.Bool.{Bool, false, _&&_}
 use native.Mathlib.Omega.{arith}
 use lib.ListN.{length, length-append}
 use Rattle.lists.proofs.ListLaws.{made-length}
-use Rattle.format.specs.Syntax.{Action, change, probe, replyCount, Sheet}
+use Rattle.format.specs.Syntax.{Action, change, probe, actionNodes, replyCount, Sheet}
 use Rattle.states.specs.Sets.{setOf}
 use Rattle.format.specs.Truth.{isState, truth, replyHolds}
-use Rattle.format.specs.Format.{accepted, reading}
+use Rattle.format.specs.Format.{gives, deepest, reading}
+use Rattle.format.proofs.FormulaLaws.{objective-onward}
 use Rattle.format.proofs.SheetLaws.{FewReplies, accepted-shape}
 use Rattle.format.proofs.StandingLaws.{accepted-standing}
-use Rattle.routine.proofs.SizeLaws.{tests-length, atom-sets-length, nodes-length, program-sets-length, size-nodes, atoms-bits, program-bits}
+use Rattle.routine.proofs.SizeLaws.{formula-length, atom-sets-length, nodes-length, program-sets-length, formula-bits, program-bits}
 use Rattle.routine.specs.declared.memory.Node.{Node}
-use Rattle.routine.specs.Tables.{rows, replyTables, actionSets, headCells, atoms, atomSets, tests, size, programAtoms, programSets, programNodes, sheetActionSets, sheetSets, sheetNodes}
+use Rattle.routine.specs.Memory.{nodeMost, setMost}
+use Rattle.routine.specs.Tables.{rows, replyTables, actionSets, headCells, atoms, atomSets, formulaSize, formulaNodes, size, programAtoms, programSets, programNodes, sheetActionSets, sheetSets, sheetNodes}
 
 -- A table for each reply.
 replies-length : (a : Action) → length (replyTables a) ≡ replyCount a
@@ -54,42 +56,43 @@ module _ (space : ℕ → Bool) where
 -- The tables of an accepted sheet have room.
 pub record Room (sheet : Sheet) : Type 0 where
   pub actions-room : length (sheetActionSets sheet) ≤ 8184
-  pub sets-room : length (sheetActionSets sheet) + (programAtoms (sheet .program) + atoms (sheet .goal)) ≤ 10240
-  pub nodes-room : size (sheet .program) + (atoms (sheet .goal) + 2) ≤ 2048
+  pub sets-room : length (sheetActionSets sheet) + (atoms (sheet .goal) + programAtoms (sheet .program)) ≤ setMost
+  pub nodes-room : formulaSize (sheet .goal) + size (sheet .program) + 2 ≤ nodeMost
 
-pub accepted-room : (bytes : List ℕ) (sheet : Sheet) → reading bytes ≡ accepted sheet → Room sheet
+pub accepted-room : (bytes : List ℕ) (sheet : Sheet) → reading bytes ≡ gives sheet → Room sheet
 unfolding sheetActionSets
 accepted-room bytes sheet e =
     let shape = accepted-shape bytes sheet e in
     let stands = accepted-standing bytes sheet e in
     let a = actions-most (isState sheet) (sheet .actions) (shape .replies-few) in
-    let g = atoms-bits bytes (sheet .facts) (sheet .goal) (stands .goal-at) (stands .program-at) (stands .goal-stands) in
+    let s = objective-onward (sheet .facts) false deepest bytes (stands .start-at) .found (sheet .start) (stands .goal-at) (stands .start-stands) in
+    let g = formula-bits bytes (sheet .facts) (sheet .goal) (stands .goal-at) (stands .program-at) (stands .goal-stands) in
     let p = program-bits bytes (sheet .facts) (sheet .program) (stands .program-at) (stands .end-at) (stands .program-stands) in
-    let fits : 5 * (programAtoms (sheet .program) + atoms (sheet .goal)) ≤ 8192 = omega (arith, g, p, stands .inside, stands .short) in
+    let fits : 5 * (atoms (sheet .goal) + programAtoms (sheet .program)) ≤ 8192 = omega (arith, g .0, p .0, stands .inside, stands .short) in
     let most : length (flatMap (actionSets (isState sheet)) (sheet .actions)) ≤ 8184 = omega (arith, a, shape .actions-most) in
     record {
       actions-room = most;
       sets-room = omega (arith, most, fits);
-      nodes-room = omega (arith, size-nodes (sheet .program), shape .acts-most, shape .branches-most, fits);
+      nodes-room = omega (arith, s .0, g .1, p .1, stands .inside, stands .short);
     }
 
 -- The lengths of a sheet's sets and nodes.
-pub sheet-sets-length : (sheet : Sheet) → length (sheetSets sheet) ≡ length (sheetActionSets sheet) + (programAtoms (sheet .program) + atoms (sheet .goal))
+pub sheet-sets-length : (sheet : Sheet) → length (sheetSets sheet) ≡ length (sheetActionSets sheet) + (atoms (sheet .goal) + programAtoms (sheet .program))
 unfolding sheetSets
 sheet-sets-length sheet =
     omega (
       arith,
-      length-append (sheetActionSets sheet) (programSets (sheet .program) ++ atomSets (sheet .goal)),
-      length-append (programSets (sheet .program)) (atomSets (sheet .goal)),
+      length-append (sheetActionSets sheet) (atomSets (sheet .goal) ++ programSets (sheet .program)),
+      length-append (atomSets (sheet .goal)) (programSets (sheet .program)),
       program-sets-length (sheet .program),
       atom-sets-length (sheet .goal),
     )
 
-pub sheet-nodes-length : (sheet : Sheet) → length (sheetNodes sheet) ≡ size (sheet .program) + (atoms (sheet .goal) + 2)
+pub sheet-nodes-length : (sheet : Sheet) → length (sheetNodes sheet) ≡ formulaSize (sheet .goal) + size (sheet .program) + 2
 unfolding sheetNodes
 sheet-nodes-length sheet =
     let k = length (sheetActionSets sheet) in
-    let ps = programNodes (sheet .program) k in
-    let gs = tests (sheet .goal) (k + programAtoms (sheet .program)) 0 1 in
-    let ends : List Node = Node.End true ∷ Node.End false ∷ [] in
-    omega (arith, length-append ps (gs ++ ends), length-append gs ends, nodes-length (sheet .program) k, tests-length (sheet .goal) (k + programAtoms (sheet .program)) 0 1)
+    let gs = formulaNodes (sheet .goal) k in
+    let ps = programNodes (sheet .program) (k + atoms (sheet .goal)) 0 in
+    let last : List Node = Node.End (actionNodes (sheet .program)) ∷ [] in
+    omega (arith, length-append gs (ps ++ last), length-append ps last, formula-length (sheet .goal) k, nodes-length (sheet .program) (k + atoms (sheet .goal)) 0)

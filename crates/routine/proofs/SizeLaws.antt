@@ -5,23 +5,21 @@ use mathlib.Core.List.{List, _∷_, _++_}
 use mathlib.Core.Bool.{false}
 use native.Mathlib.Omega.{arith}
 use lib.ListN.{length, length-append}
-use Rattle.format.specs.Syntax.{Epistemic, known, not-known, all-of, any-of, Program, end, act, branch, actionNodes, branchNodes}
-use Rattle.format.specs.Format.{known-node, not-known-node, all-of-node, any-of-node, end-node, act-node, branch-node}
+use Rattle.format.specs.Syntax.{Epistemic, known, not-known, all-of, any-of, Program, end, act, branch, actionNodes}
+use Rattle.format.specs.Format.{deepest, known-node, not-known-node, all-of-node, any-of-node, end-node, act-node, branch-node}
 use Rattle.format.proofs.StandingLaws.{epistemic-node-inside, program-node-inside}
 use Rattle.format.specs.Standing.{EpistemicAt, ProgramAt}
 use Rattle.format.proofs.FormulaLaws.{objective-onward}
 use Rattle.routine.specs.declared.memory.Node.{Node}
-use Rattle.routine.specs.Tables.{atoms, atomSets, tests, size, programAtoms, programSets, programNodes}
+use Rattle.routine.specs.Tables.{atoms, atomSets, formulaSize, formulaNodes, size, programAtoms, programSets, programNodes}
 
--- A formula has a test and a set for each atom.
-pub tests-length : (f : Epistemic) (k met unmet : ℕ) → length (tests f k met unmet) ≡ atoms f
-unfolding tests atoms
-tests-length (known f) k met unmet = refl
-tests-length (not-known f) k met unmet = refl
-tests-length (all-of f g) k met unmet =
-    omega (arith, length-append (tests f k 0 (atoms g + unmet)) (tests g (k + atoms f) met unmet), tests-length f k 0 (atoms g + unmet), tests-length g (k + atoms f) met unmet)
-tests-length (any-of f g) k met unmet =
-    omega (arith, length-append (tests f k (atoms g + met) 0) (tests g (k + atoms f) met unmet), tests-length f k (atoms g + met) 0, tests-length g (k + atoms f) met unmet)
+-- A formula has as many nodes as its size, and a set for each atom.
+pub formula-length : (f : Epistemic) (k : ℕ) → length (formulaNodes f k) ≡ formulaSize f
+unfolding formulaNodes formulaSize
+formula-length (known f) k = refl
+formula-length (not-known f) k = refl
+formula-length (all-of f g) k = omega (arith, length-append (formulaNodes f k) (formulaNodes g (k + atoms f)), formula-length f k, formula-length g (k + atoms f))
+formula-length (any-of f g) k = omega (arith, length-append (formulaNodes f k) (formulaNodes g (k + atoms f)), formula-length f k, formula-length g (k + atoms f))
 
 pub atom-sets-length : (f : Epistemic) → length (atomSets f) ≡ atoms f
 unfolding atomSets atoms
@@ -30,7 +28,14 @@ atom-sets-length (not-known f) = refl
 atom-sets-length (all-of f g) = omega (arith, length-append (atomSets f) (atomSets g), atom-sets-length f, atom-sets-length g)
 atom-sets-length (any-of f g) = omega (arith, length-append (atomSets f) (atomSets g), atom-sets-length f, atom-sets-length g)
 
--- It has one at least.
+-- It has one of each at least.
+pub some-node : (f : Epistemic) → 1 ≤ formulaSize f
+unfolding formulaSize
+some-node (known f) = omega arith
+some-node (not-known f) = omega arith
+some-node (all-of f g) = omega arith
+some-node (any-of f g) = omega arith
+
 pub some-atom : (f : Epistemic) → 1 ≤ atoms f
 unfolding atoms
 some-atom (known f) = omega arith
@@ -39,24 +44,26 @@ some-atom (all-of f g) = omega (arith, some-atom f)
 some-atom (any-of f g) = omega (arith, some-atom f)
 
 -- A program has as many nodes as its size, and a set for each atom.
-pub nodes-length : (p : Program) (k : ℕ) → length (programNodes p k) ≡ size p
+pub nodes-length : (p : Program) (k c : ℕ) → length (programNodes p k c) ≡ size p
 unfolding programNodes size
-nodes-length end k = refl
-nodes-length (act a rest) k = ap suc (nodes-length rest k)
-nodes-length (branch f y z rest) k =
+nodes-length end k c = refl
+nodes-length (act a rest) k c = ap suc (nodes-length rest k (c + 1))
+nodes-length (branch f y z rest) k c =
     let k₁ = k + atoms f in
     let k₂ = k + atoms f + programAtoms y in
     let k₃ = k + atoms f + programAtoms y + programAtoms z in
-    let later = programNodes z k₂ ++ programNodes rest k₃ in
+    let c₁ = c + actionNodes y in
+    let c₂ = c + actionNodes y + actionNodes z in
+    let later = programNodes z k₂ c₁ ++ programNodes rest k₃ c₂ in
     omega (
       arith,
-      length-append (tests f k 0 (suc (size y))) (programNodes y k₁ ++ (Node.Jump (size z) ∷ later)),
-      length-append (programNodes y k₁) (Node.Jump (size z) ∷ later),
-      length-append (programNodes z k₂) (programNodes rest k₃),
-      tests-length f k 0 (suc (size y)),
-      nodes-length y k₁,
-      nodes-length z k₂,
-      nodes-length rest k₃,
+      length-append (formulaNodes f k) (programNodes y k₁ c ++ (Node.Jump (size z) ∷ later)),
+      length-append (programNodes y k₁ c) (Node.Jump (size z) ∷ later),
+      length-append (programNodes z k₂ c₁) (programNodes rest k₃ c₂),
+      formula-length f k,
+      nodes-length y k₁ c,
+      nodes-length z k₂ c₁,
+      nodes-length rest k₃ c₂,
     )
 
 pub program-sets-length : (p : Program) → length (programSets p) ≡ programAtoms p
@@ -75,43 +82,42 @@ program-sets-length (branch f y z rest) =
       program-sets-length rest,
     )
 
--- A program has a node for each action node, for each branch node (the jump behind its then-program) and for each atom.
-pub size-nodes : (p : Program) → size p ≡ actionNodes p + branchNodes p + programAtoms p
-unfolding size actionNodes branchNodes programAtoms
-size-nodes end = refl
-size-nodes (act a rest) = omega (arith, size-nodes rest)
-size-nodes (branch f y z rest) = omega (arith, size-nodes y, size-nodes z, size-nodes rest)
-
--- An atom takes 5 bits at least.
+-- What they take of the sheet: an atom 5 bits at least, "and" and "or" 2.
 module _ (bytes : List ℕ) (n : ℕ) where
-  pub atoms-bits : (f : Epistemic) (p q : ℕ) → EpistemicAt bytes n f p q → p + 5 * atoms f ≤ q
-  unfolding EpistemicAt atoms
-  atoms-bits (known f) p q s =
+  pub formula-bits : (f : Epistemic) (p q : ℕ) → EpistemicAt bytes n f p q → (p + 5 * atoms f ≤ q) × (p + 2 * formulaSize f ≤ q)
+  unfolding EpistemicAt atoms formulaSize
+  formula-bits (known f) p q s =
       let i = epistemic-node-inside bytes p .found known-node (s .0) (s .1) in
-      let h = objective-onward n false 16 bytes (s .0) .found f q (s .2) in
-      omega (arith, i .0, h .0)
-  atoms-bits (not-known f) p q s =
+      let h = objective-onward n false deepest bytes (s .0) .found f q (s .2) in
+      (omega (arith, i .0, h .0), omega (arith, i .0, h .0))
+  formula-bits (not-known f) p q s =
       let i = epistemic-node-inside bytes p .found not-known-node (s .0) (s .1) in
-      let h = objective-onward n false 16 bytes (s .0) .found f q (s .2) in
-      omega (arith, i .0, h .0)
-  atoms-bits (all-of f g) p q s =
+      let h = objective-onward n false deepest bytes (s .0) .found f q (s .2) in
+      (omega (arith, i .0, h .0), omega (arith, i .0, h .0))
+  formula-bits (all-of f g) p q s =
       let i = epistemic-node-inside bytes p .found all-of-node (s .0) (s .1) in
-      omega (arith, i .0, atoms-bits f (s .0) (s .2) (s .3), atoms-bits g (s .2) q (s .4))
-  atoms-bits (any-of f g) p q s =
+      let a = formula-bits f (s .0) (s .2) (s .3) in
+      let b = formula-bits g (s .2) q (s .4) in
+      (omega (arith, i .0, a .0, b .0), omega (arith, i .0, a .1, b .1))
+  formula-bits (any-of f g) p q s =
       let i = epistemic-node-inside bytes p .found any-of-node (s .0) (s .1) in
-      omega (arith, i .0, atoms-bits f (s .0) (s .2) (s .3), atoms-bits g (s .2) q (s .4))
+      let a = formula-bits f (s .0) (s .2) (s .3) in
+      let b = formula-bits g (s .2) q (s .4) in
+      (omega (arith, i .0, a .0, b .0), omega (arith, i .0, a .1, b .1))
 
-  pub program-bits : (program : Program) (p q : ℕ) → ProgramAt bytes n program p q → p + 5 * programAtoms program ≤ q
-  unfolding ProgramAt programAtoms
-  program-bits end p q s = omega (arith, program-node-inside bytes p .found end-node q s .0)
-  program-bits (act a rest) p q s = omega (arith, program-node-inside bytes p .found (act-node a) (s .0) (s .1) .0, program-bits rest (s .0) q (s .2))
+  -- A program 2 bits for each of its nodes, those of its jumps being taken by the ends before and behind them, and 2 for its end.
+  pub program-bits : (program : Program) (p q : ℕ) → ProgramAt bytes n program p q → (p + 5 * programAtoms program ≤ q) × (p + 2 * size program + 2 ≤ q)
+  unfolding ProgramAt programAtoms size
+  program-bits end p q s = let i = program-node-inside bytes p .found end-node q s in (omega (arith, i .0), omega (arith, i .0))
+  program-bits (act a rest) p q s =
+      let i = program-node-inside bytes p .found (act-node a) (s .0) (s .1) in
+      let r = program-bits rest (s .0) q (s .2) in
+      (omega (arith, i .0, r .0), omega (arith, i .0, r .1))
   program-bits (branch f y z rest) p q s =
       let parts = s .2 in
-      omega (
-        arith,
-        program-node-inside bytes p .found branch-node (s .0) (s .1) .0,
-        atoms-bits f (s .0) (parts .then-at) (parts .condition-stands),
-        program-bits y (parts .then-at) (parts .else-at) (parts .then-stands),
-        program-bits z (parts .else-at) (parts .rest-at) (parts .else-stands),
-        program-bits rest (parts .rest-at) q (parts .rest-stands),
-      )
+      let i = program-node-inside bytes p .found branch-node (s .0) (s .1) in
+      let c = formula-bits f (s .0) (parts .then-at) (parts .condition-stands) in
+      let t = program-bits y (parts .then-at) (parts .else-at) (parts .then-stands) in
+      let e = program-bits z (parts .else-at) (parts .rest-at) (parts .else-stands) in
+      let r = program-bits rest (parts .rest-at) q (parts .rest-stands) in
+      (omega (arith, i .0, c .0, t .0, e .0, r .0), omega (arith, i .0, c .1, t .1, e .1, r .1))

@@ -2,85 +2,98 @@
 use Prim.Native.Nat.{ℕ, zero, suc, _+_, _*_, _<_, _≤_}
 use mathlib.Core.Path.{_≡_, refl, ap, _∙_}
 use mathlib.Core.List.{List, [], _∷_, _++_, flatMap}
-use mathlib.Core.Bool.{Bool, true, false}
+use mathlib.Core.Bool.{Bool, false}
 use native.Mathlib.Omega.{arith}
+use native.Mathlib.Nat.{mul-zero, mul-suc}
 use lib.ListN.{length, getD, take, length-append, List·getD-append}
 use borrow.Author.Tests.{lt-ltb}
 use Rattle.lists.specs.Lists.{if_then_else_}
 use Rattle.lists.proofs.ListLaws.{append-past, made-get}
 use Rattle.states.specs.declared.States.{States}
-use Rattle.states.specs.Sets.{setOf}
+use Rattle.states.specs.Sets.{words, setOf}
 use Rattle.format.specs.Syntax.{Action, probe, replyCount, Sheet, actionOf}
 use Rattle.format.specs.Truth.{isState, replyHolds}
-use Rattle.format.specs.Format.{Answer, accepted, refused, reading}
+use Rattle.format.specs.Format.{Answer, gives, refused, onAccepted, reading}
 use Rattle.reader.specs.Answers.{numberOf}
 use Rattle.reader.specs.declared.refusal.Refusal.{Refusal}
 use Rattle.format.proofs.SheetLaws.{accepted-shape}
 use Rattle.routine.specs.declared.memory.Node.{Node}
 use Rattle.routine.specs.declared.memory.Head.{Head}
 use Rattle.routine.specs.declared.sheet.Prepared.{Prepared}
-use Rattle.routine.specs.Memory.{write, words, cells, setAt, nodeOf, nodeAt, headAt}
+use Rattle.routine.specs.Memory.{write, cells, headMost, nodeMost, setMost, Sized, setAt, nodeOf, nodeAt, headAt}
 use Rattle.routine.specs.Tables.{rows, replyTables, actionSets, atomSets, programSets, headCells, sheetActionSets, sheetSets, sheetNodes, sheetHeads, setWords, nodeCells, sheetStart, preparedOf, startOf, prepared}
-use Rattle.routine.proofs.WriteLaws.{write-back, spread-length, words-four, cells-four}
+use Rattle.routine.proofs.WriteLaws.{write-back, spread-length, words-four, cells-three}
 use Rattle.routine.proofs.RoomLaws.{action-length, heads-length, sheet-sets-length, sheet-nodes-length, accepted-room}
 
 -- What was written from the first place on is read back.
 back : (xs ys : List ℕ) → length ys ≤ length xs → (j : ℕ) → j < length ys → getD (write xs 0 ys) j 0 ≡ getD ys j 0
 back xs ys h j l = let e : j ≡ 0 + j = omega arith in ap (λ (v : ℕ). getD (write xs 0 ys) v 0) e ∙ write-back xs 0 ys (omega arith) j l
 
--- What takes four numbers each: number j of item k.
-module _ {A : Type 0} (spread : A → List ℕ) (four : (a : A) → length (spread a) ≡ 4) (d : A) where
-  spread-get : (items : List A) (k j : ℕ) → k < length items → j < 4 → getD (flatMap spread items) (4 * k + j) 0 ≡ getD (spread (getD items k d)) j 0
+-- What takes w numbers each: number j of item k.
+module _ {A : Type 0} (w : ℕ) (spread : A → List ℕ) (wide : (a : A) → length (spread a) ≡ w) (d : A) where
+  spread-get : (items : List A) (k j : ℕ) → k < length items → j < w → getD (flatMap spread items) (w * k + j) 0 ≡ getD (spread (getD items k d)) j 0
   unfolding flatMap
   spread-get [] k j l m = absurd (omega arith)
   spread-get (a ∷ items) zero j l m =
-      let e : 4 * 0 + j ≡ j = omega arith in
-      ap (λ (v : ℕ). getD (spread a ++ flatMap spread items) v 0) e ∙ List·getD-append (spread a) (flatMap spread items) 0 j (omega (arith, four a))
+      let e : w * 0 + j ≡ j = omega (arith, mul-zero w) in
+      ap (λ (v : ℕ). getD (spread a ++ flatMap spread items) v 0) e ∙ List·getD-append (spread a) (flatMap spread items) 0 j (omega (arith, wide a))
   spread-get (a ∷ items) (suc k) j l m =
-      let e : 4 * suc k + j ≡ length (spread a) + (4 * k + j) = omega (arith, four a) in
-      ap (λ (v : ℕ). getD (spread a ++ flatMap spread items) v 0) e ∙ append-past (spread a) (flatMap spread items) 0 (4 * k + j) ∙ spread-get items k j (omega arith) m
+      let e : w * suc k + j ≡ length (spread a) + (w * k + j) = omega (arith, wide a, mul-suc w k) in
+      ap (λ (v : ℕ). getD (spread a ++ flatMap spread items) v 0) e ∙ append-past (spread a) (flatMap spread items) 0 (w * k + j) ∙ spread-get items k j (omega arith) m
 
-  item-back : (xs : List ℕ) (items : List A) → 4 * length items ≤ length xs → (k j : ℕ) → k < length items → j < 4
-      → getD (write xs 0 (flatMap spread items)) (4 * k + j) 0 ≡ getD (spread (getD items k d)) j 0
-  item-back xs items h k j l m =
-      back xs (flatMap spread items) (omega (arith, spread-length spread four items)) (4 * k + j) (omega (arith, spread-length spread four items)) ∙ spread-get items k j l m
+  -- It is one of the numbers of all items.
+  spread-inside : (items : List A) (k j : ℕ) → k < length items → j < w → w * k + j < length (flatMap spread items)
+  unfolding flatMap
+  spread-inside [] k j l m = absurd (omega arith)
+  spread-inside (a ∷ items) zero j l m = omega (arith, m, mul-zero w, wide a, length-append (spread a) (flatMap spread items))
+  spread-inside (a ∷ items) (suc k) j l m = omega (arith, wide a, mul-suc w k, length-append (spread a) (flatMap spread items), spread-inside items k j (omega arith) m)
 
-  item-first : (xs : List ℕ) (items : List A) → 4 * length items ≤ length xs → (k : ℕ) → k < length items → getD (write xs 0 (flatMap spread items)) (4 * k) 0 ≡ getD (spread (getD items k d)) 0 0
-  item-first xs items h k l = let e : 4 * k ≡ 4 * k + 0 = omega arith in ap (λ (v : ℕ). getD (write xs 0 (flatMap spread items)) v 0) e ∙ item-back xs items h k 0 l (omega arith)
+  item-back : (xs : List ℕ) (items : List A) → length (flatMap spread items) ≤ length xs → (k j : ℕ) → k < length items → j < w
+      → getD (write xs 0 (flatMap spread items)) (w * k + j) 0 ≡ getD (spread (getD items k d)) j 0
+  item-back xs items h k j l m = back xs (flatMap spread items) h (w * k + j) (spread-inside items k j l m) ∙ spread-get items k j l m
+
+  item-first : (xs : List ℕ) (items : List A) → length (flatMap spread items) ≤ length xs → (k : ℕ) → k < length items → 0 < w
+      → getD (write xs 0 (flatMap spread items)) (w * k) 0 ≡ getD (spread (getD items k d)) 0 0
+  item-first xs items h k l some = let e : w * k ≡ w * k + 0 = omega arith in ap (λ (v : ℕ). getD (write xs 0 (flatMap spread items)) v 0) e ∙ item-back xs items h k 0 l some
 
 -- The empty set, where a list of sets has no further one.
 abbrev pub noStates : States
 noStates = setOf (λ s. false)
 
-set-back : (xs : List ℕ) (items : List States) → length xs ≡ 40960 → length items ≤ 10240 → (k : ℕ) → k < length items → setAt (write xs 0 (flatMap words items)) k ≡ getD items k noStates
+set-back : (xs : List ℕ) (items : List States) → length xs ≡ 4 * setMost → length items ≤ setMost → (k : ℕ) → k < length items → setAt (write xs 0 (flatMap words items)) k ≡ getD items k noStates
 unfolding setAt words if_then_else_
 set-back xs items h m k l =
-    let room : 4 * length items ≤ length xs = omega (arith, h) in
-    let e : ((j : ℕ) → j < 4 → getD (write xs 0 (flatMap words items)) (4 * k + j) 0 ≡ getD (words (getD items k noStates)) j 0) = λ j. item-back words words-four noStates xs items room k j l in
-    let e₀ = item-first words words-four noStates xs items room k l in
-    rw (lt-ltb k 10240 (omega arith)) (λ i. record { w0 = e₀ i; w1 = e 1 (omega arith) i; w2 = e 2 (omega arith) i; w3 = e 3 (omega arith) i })
+    let room : length (flatMap words items) ≤ length xs = omega (arith, h, spread-length 4 words words-four items) in
+    let e : ((j : ℕ) → j < 4 → getD (write xs 0 (flatMap words items)) (4 * k + j) 0 ≡ getD (words (getD items k noStates)) j 0) = λ j. item-back 4 words words-four noStates xs items room k j l in
+    let e₀ = item-first 4 words words-four noStates xs items room k l (omega arith) in
+    rw (lt-ltb k setMost (omega arith)) (λ i. record { w0 = e₀ i; w1 = e 1 (omega arith) i; w2 = e 2 (omega arith) i; w3 = e 3 (omega arith) i })
+
+-- The end, where a list of nodes has no further one.
+abbrev pub noNode : Node
+noNode = Node.End 0
 
 -- A node is read back from its numbers.
-node-cells : (x : Node) → nodeOf (getD (cells x) 0 0) (getD (cells x) 1 0) (getD (cells x) 2 0) (getD (cells x) 3 0) ≡ x
+node-cells : (x : Node) → nodeOf (getD (cells x) 0 0) (getD (cells x) 1 0) (getD (cells x) 2 0) ≡ x
 unfolding nodeOf cells if_then_else_
-node-cells (Node.Act a) = refl
-node-cells (Node.Test k met unmet) = refl
+node-cells (Node.Act a number) = refl
+node-cells (Node.Branch met unmet) = refl
 node-cells (Node.Jump skip) = refl
-node-cells (Node.End true) = refl
-node-cells (Node.End false) = refl
+node-cells (Node.End count) = refl
+node-cells (Node.All size) = refl
+node-cells (Node.Any size) = refl
+node-cells (Node.Known k) = refl
+node-cells (Node.NotKnown k) = refl
 
-node-back : (xs : List ℕ) (items : List Node) → length xs ≡ 8192 → length items ≤ 2048 → (k : ℕ) → k < length items → nodeAt (write xs 0 (flatMap cells items)) k ≡ getD items k (Node.End false)
+node-back : (xs : List ℕ) (items : List Node) → length xs ≡ 3 * nodeMost → length items ≤ nodeMost → (k : ℕ) → k < length items → nodeAt (write xs 0 (flatMap cells items)) k ≡ getD items k noNode
 unfolding nodeAt if_then_else_
 node-back xs items h m k l =
-    let none = Node.End false in
-    let room : 4 * length items ≤ length xs = omega (arith, h) in
+    let room : length (flatMap cells items) ≤ length xs = omega (arith, h, spread-length 3 cells cells-three items) in
     rw (
-      lt-ltb k 2048 (omega arith),
-      item-first cells cells-four none xs items room k l,
-      item-back cells cells-four none xs items room k 1 l (omega arith),
-      item-back cells cells-four none xs items room k 2 l (omega arith),
-      item-back cells cells-four none xs items room k 3 l (omega arith),
-    ) (node-cells (getD items k none))
+      lt-ltb k nodeMost (omega arith),
+      item-first 3 cells cells-three noNode xs items room k l (omega arith),
+      item-back 3 cells cells-three noNode xs items room k 1 l (omega arith),
+      item-back 3 cells cells-three noNode xs items room k 2 l (omega arith),
+    ) (node-cells (getD items k noNode))
 
 -- Actions, over a space of states.
 module _ (space : ℕ → Bool) where
@@ -143,14 +156,14 @@ module _ (space : ℕ → Bool) where
 -- The memory holds a sheet's tables.
 pub record Tabled (sheet : Sheet) (heads nodes sets : List ℕ) : Type 0 where
   pub head-is : (a : ℕ) → a < length (sheet .actions) → headAt heads a ≡ headOf (isState sheet) (firstSet (isState sheet) (sheet .actions) a) (actionOf sheet a)
-  pub node-is : (i : ℕ) → i < length (sheetNodes sheet) → nodeAt nodes i ≡ getD (sheetNodes sheet) i (Node.End false)
+  pub node-is : (i : ℕ) → i < length (sheetNodes sheet) → nodeAt nodes i ≡ getD (sheetNodes sheet) i noNode
   pub set-is : (k : ℕ) → k < length (sheetSets sheet) → setAt sets k ≡ getD (sheetSets sheet) k noStates
 
 -- A memory of the right size holds the tables of an accepted sheet after it was prepared.
-pub prepared-tabled : (bytes : List ℕ) (sheet : Sheet) → reading bytes ≡ accepted sheet → (heads nodes sets : List ℕ) → length heads ≡ 93 → length nodes ≡ 8192 → length sets ≡ 40960
+pub prepared-tabled : (bytes : List ℕ) (sheet : Sheet) → reading bytes ≡ gives sheet → (heads nodes sets : List ℕ) → Sized heads nodes sets
     → Tabled sheet (prepared sheetHeads (reading bytes) heads) (prepared nodeCells (reading bytes) nodes) (prepared setWords (reading bytes) sets)
 unfolding prepared sheetHeads nodeCells setWords headAt actionOf if_then_else_
-prepared-tabled bytes sheet e heads nodes sets h n s =
+prepared-tabled bytes sheet e heads nodes sets (h, n, s) =
     let room = accepted-room bytes sheet e in
     let shape = accepted-shape bytes sheet e in
     let space = isState sheet in
@@ -163,21 +176,21 @@ prepared-tabled bytes sheet e heads nodes sets h n s =
           let first : getD (write heads 0 cells) (3 * a) 0 ≡ getD cells (3 * a) 0 = back heads cells (omega (arith, long, h, shape .actions-most)) (3 * a) (omega (arith, long)) in
           let k = firstSet space (sheet .actions) a in
           let none : 0 + k ≡ k = omega arith in
-          rw (lt-ltb a 31 (omega (arith, shape .actions-most)), first, at 1 (omega arith), at 2 (omega arith))
+          rw (lt-ltb a headMost (omega (arith, shape .actions-most)), first, at 1 (omega arith), at 2 (omega arith))
           (head-get space 0 (sheet .actions) a l ∙ ap (λ (v : ℕ). headOf space v (actionOf sheet a)) none);
       node-is = λ i l. node-back nodes (sheetNodes sheet) n (omega (arith, sheet-nodes-length sheet, room .nodes-room)) i l;
       set-is = λ k l. set-back sets (sheetSets sheet) s (omega (arith, sheet-sets-length sheet, room .sets-room)) k l;
     })
 
 -- The sheet behind an answer of `prepare`: a start set is that of the accepted sheet, a refusal that of the sheet.
-pub ready-sheet : (a : Answer Sheet) (start : States) → preparedOf (Prepared.Ready start) ≡ startOf a → (sheet : Sheet) × (a ≡ accepted sheet) × (start ≡ sheetStart sheet)
-unfolding preparedOf startOf
-ready-sheet (accepted sheet) start e = (sheet, refl, cc)
+pub ready-sheet : (a : Answer Sheet) (start : States) → preparedOf (Prepared.Ready start) ≡ startOf a → (sheet : Sheet) × (a ≡ gives sheet) × (start ≡ sheetStart sheet)
+unfolding preparedOf startOf onAccepted
+ready-sheet (gives sheet) start e = (sheet, refl, cc)
 ready-sheet (refused r) start e = let z : _≡_ {A = ℕ} 0 1 = cc in absurd (omega arith)
 
 pub refused-sheet : (a : Answer Sheet) (r : Refusal) → preparedOf (Prepared.Refused r) ≡ startOf a → a ≡ refused (numberOf r)
-unfolding preparedOf startOf
-refused-sheet (accepted sheet) r e = let z : _≡_ {A = ℕ} 0 1 = cc in absurd (omega arith)
+unfolding preparedOf startOf onAccepted
+refused-sheet (gives sheet) r e = let z : _≡_ {A = ℕ} 0 1 = cc in absurd (omega arith)
 refused-sheet (refused k) r e = cc
 
 -- The sets of an action of the sheet.
@@ -192,8 +205,8 @@ module _ (sheet : Sheet) (heads nodes sets : List ℕ) (tabled : Tabled sheet he
   unfolding sheetSets sheetActionSets actionOf
   set-of j m =
       let h = action-set space (sheet .actions) a l j m in
-      tabled .set-is (first + j) (omega (arith, h .0, length-append (sheetActionSets sheet) (programSets (sheet .program) ++ atomSets (sheet .goal))))
-      ∙ List·getD-append (sheetActionSets sheet) (programSets (sheet .program) ++ atomSets (sheet .goal)) noStates (first + j) (h .0) ∙ h .1
+      tabled .set-is (first + j) (omega (arith, h .0, length-append (sheetActionSets sheet) (atomSets (sheet .goal) ++ programSets (sheet .program))))
+      ∙ List·getD-append (sheetActionSets sheet) (atomSets (sheet .goal) ++ programSets (sheet .program)) noStates (first + j) (h .0) ∙ h .1
 
   -- Its rows, and the tables of its replies.
   pub row-is : (j : ℕ) → j < length (rows space (actionOf sheet a)) → setAt sets (first + j) ≡ getD (rows space (actionOf sheet a)) j noStates

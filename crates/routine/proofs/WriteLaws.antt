@@ -1,14 +1,15 @@
 -- Laws of writing numbers one after the other, and of what is written. Assumes nothing.
 use Prim.Native.Nat.{ℕ, zero, suc, _+_, _*_, _<_, _≤_}
-use mathlib.Core.Path.{_≡_, refl, ap, sym, _∙_}
+use mathlib.Core.Path.{_≡_, refl, ap, ap₂, sym, _∙_}
 use mathlib.Core.List.{List, [], _∷_, _++_, flatMap, append-assoc, append-nil}
 use native.Mathlib.Omega.{arith}
+use native.Mathlib.Nat.{mul-zero, mul-suc, mul-add}
 use lib.ListN.{length, getD, set, length-set, length-append}
 use lib.Seq.{set-comm, getD-set-same, getD-set-other}
-use mathlib.Core.Bool.{true, false}
 use Rattle.states.specs.declared.States.{States}
 use Rattle.routine.specs.declared.memory.Node.{Node}
-use Rattle.routine.specs.Memory.{write, words, cells}
+use Rattle.states.specs.Sets.{words}
+use Rattle.routine.specs.Memory.{write, cells}
 
 -- Writing keeps the length.
 pub write-length : (xs : List ℕ) (i : ℕ) (ys : List ℕ) → length (write xs i ys) ≡ length xs
@@ -64,30 +65,51 @@ module _ (xs us vs : List ℕ) (i j : ℕ) (ys zs : List ℕ) where
       b ∙ ap (λ (w : List ℕ). write w i ys) a ∙ write-prepend xs i j ys zs (omega (arith, e))
       ∙ ap (λ (k : ℕ). write (write xs i ys) k zs) (sym e) ∙ sym (write-append xs i ys zs)
 
--- What takes four numbers each takes four times as many.
-module _ {A : Type 0} (spread : A → List ℕ) (four : (a : A) → length (spread a) ≡ 4) where
-  pub spread-length : (items : List A) → length (flatMap spread items) ≡ 4 * length items
+-- Stores at places that are counted from the first are a writing.
+module _ (xs : List ℕ) (i a b c : ℕ) where
+  pub three-stores : set (set (set xs i a) (i + 1) b) (i + 2) c ≡ write xs i (a ∷ b ∷ c ∷ [])
+  unfolding write
+  three-stores = let e : i + 2 ≡ i + 1 + 1 = omega arith in ap (λ (j : ℕ). set (set (set xs i a) (i + 1) b) j c) e
+
+  pub four-stores : (d : ℕ) → set (set (set (set xs i a) (i + 1) b) (i + 2) c) (i + 3) d ≡ write xs i (a ∷ b ∷ c ∷ d ∷ [])
+  unfolding write
+  four-stores d =
+      let e : i + 3 ≡ i + 1 + 1 + 1 = omega arith in
+      ap₂ (λ (us : List ℕ) (j : ℕ). set us j d) three-stores e
+
+-- Items that take w numbers each.
+module _ {A : Type 0} (w : ℕ) (spread : A → List ℕ) (wide : (a : A) → length (spread a) ≡ w) where
+  pub spread-length : (items : List A) → length (flatMap spread items) ≡ w * length items
   unfolding flatMap
-  spread-length [] = refl
-  spread-length (a ∷ items) = omega (arith, length-append (spread a) (flatMap spread items), four a, spread-length items)
+  spread-length [] = sym (mul-zero w)
+  spread-length (a ∷ items) = omega (arith, length-append (spread a) (flatMap spread items), wide a, spread-length items, mul-suc w (length items))
+
+  -- Behind i items that take w numbers each.
+  spread-behind : (items : List A) (i j : ℕ) → i + length items ≡ j → w * i + length (flatMap spread items) ≡ w * j
+  spread-behind items i j e = ap (λ (v : ℕ). w * i + v) (spread-length items) ∙ sym (mul-add w i (length items)) ∙ ap (λ (v : ℕ). w * v) e
 
   -- Where one is written, the others are left to be written behind it.
-  pub spread-step : (xs us : List ℕ) (k j : ℕ) (a : A) (items : List A) → us ≡ write xs (4 * k) (spread a) → k + 1 ≡ j
-      → write us (4 * j) (flatMap spread items) ≡ write xs (4 * k) (flatMap spread (a ∷ items))
+  pub spread-step : (xs us : List ℕ) (k j : ℕ) (a : A) (items : List A) → us ≡ write xs (w * k) (spread a) → k + 1 ≡ j
+      → write us (w * j) (flatMap spread items) ≡ write xs (w * k) (flatMap spread (a ∷ items))
   unfolding flatMap
-  spread-step xs us k j a items h e = written-on xs us (write us (4 * j) (flatMap spread items)) (4 * k) (4 * j) (spread a) (flatMap spread items) h refl (omega (arith, four a, e))
+  spread-step xs us k j a items h e =
+      let behind : w * k + length (spread a) ≡ w * j = ap (λ (v : ℕ). w * k + v) (wide a) ∙ sym (mul-suc w k) ∙ ap (λ (v : ℕ). w * v) (let f : suc k ≡ k + 1 = omega arith in f ∙ e) in
+      written-on xs us (write us (w * j) (flatMap spread items)) (w * k) (w * j) (spread a) (flatMap spread items) h refl behind
 
 pub words-four : (set : States) → length (words set) ≡ 4
 unfolding words
 words-four set = refl
 
-pub cells-four : (node : Node) → length (cells node) ≡ 4
+pub cells-three : (node : Node) → length (cells node) ≡ 3
 unfolding cells
-cells-four (Node.Act a) = refl
-cells-four (Node.Test k met unmet) = refl
-cells-four (Node.Jump skip) = refl
-cells-four (Node.End true) = refl
-cells-four (Node.End false) = refl
+cells-three (Node.Act a number) = refl
+cells-three (Node.Branch met unmet) = refl
+cells-three (Node.Jump skip) = refl
+cells-three (Node.End count) = refl
+cells-three (Node.All size) = refl
+cells-three (Node.Any size) = refl
+cells-three (Node.Known k) = refl
+cells-three (Node.NotKnown k) = refl
 
 pub spread-append : {A : Type 0} (spread : A → List ℕ) (items more : List A) → flatMap spread (items ++ more) ≡ flatMap spread items ++ flatMap spread more
 unfolding flatMap
@@ -100,15 +122,21 @@ unfolding flatMap
 spread-one spread a = append-nil (spread a)
 
 -- Items that are spread, written one part behind the other: the first part first, or the second part first.
-module _ {A : Type 0} (spread : A → List ℕ) (four : (a : A) → length (spread a) ≡ 4) (xs us vs : List ℕ) (i j : ℕ) (items more : List A) where
-  pub spread-on : us ≡ write xs (4 * i) (flatMap spread items) → vs ≡ write us (4 * j) (flatMap spread more) → i + length items ≡ j
-      → vs ≡ write xs (4 * i) (flatMap spread (items ++ more))
+module _ {A : Type 0} (w : ℕ) (spread : A → List ℕ) (wide : (a : A) → length (spread a) ≡ w) (xs us vs : List ℕ) (i j : ℕ) (items more : List A) where
+  pub spread-on : us ≡ write xs (w * i) (flatMap spread items) → vs ≡ write us (w * j) (flatMap spread more) → i + length items ≡ j
+      → vs ≡ write xs (w * i) (flatMap spread (items ++ more))
   spread-on a b e =
-      written-on xs us vs (4 * i) (4 * j) (flatMap spread items) (flatMap spread more) a b (omega (arith, e, spread-length spread four items))
-      ∙ ap (write xs (4 * i)) (sym (spread-append spread items more))
+      written-on xs us vs (w * i) (w * j) (flatMap spread items) (flatMap spread more) a b (spread-behind w spread wide items i j e)
+      ∙ ap (write xs (w * i)) (sym (spread-append spread items more))
 
-  pub spread-back : us ≡ write xs (4 * j) (flatMap spread more) → vs ≡ write us (4 * i) (flatMap spread items) → i + length items ≡ j
-      → vs ≡ write xs (4 * i) (flatMap spread (items ++ more))
+  pub spread-back : us ≡ write xs (w * j) (flatMap spread more) → vs ≡ write us (w * i) (flatMap spread items) → i + length items ≡ j
+      → vs ≡ write xs (w * i) (flatMap spread (items ++ more))
   spread-back a b e =
-      written-back xs us vs (4 * i) (4 * j) (flatMap spread items) (flatMap spread more) a b (omega (arith, e, spread-length spread four items))
-      ∙ ap (write xs (4 * i)) (sym (spread-append spread items more))
+      written-back xs us vs (w * i) (w * j) (flatMap spread items) (flatMap spread more) a b (spread-behind w spread wide items i j e)
+      ∙ ap (write xs (w * i)) (sym (spread-append spread items more))
+
+-- A node before the nodes that were written behind it.
+pub node-before : (nodes nodes₁ nodes₂ : List ℕ) (i : ℕ) (node : Node) (later : List Node) → nodes₁ ≡ write nodes (3 * (i + 1)) (flatMap cells later) → nodes₂ ≡ write nodes₁ (3 * i) (cells node)
+    → nodes₂ ≡ write nodes (3 * i) (flatMap cells (node ∷ later))
+node-before nodes nodes₁ nodes₂ i node later a b =
+    spread-back 3 cells cells-three nodes nodes₁ nodes₂ i (i + 1) (node ∷ []) later a (b ∙ ap (write nodes₁ (3 * i)) (sym (spread-one cells node))) refl

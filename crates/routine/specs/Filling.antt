@@ -1,22 +1,21 @@
 -- The method: what the parts of `prepare` do, for the contracts of inner functions. An auditor of the promises needs none of it. Parts of a sheet stand in its bytes as
 -- format/specs/Standing.antt says.
 use Prim.Native.Nat.{ℕ, _+_, _*_, _≤_}
-use mathlib.Core.List.{List, [], _∷_, flatMap, map}
+use mathlib.Core.List.{List, [], _∷_, _++_, flatMap, map}
 use mathlib.Core.Bool.{true, false, _&&_}
 use mathlib.Core.Path.{_≡_}
 use lib.ListN.{length}
 use Rattle.states.specs.declared.States.{States}
-use Rattle.states.specs.Sets.{member, setOf}
-use Rattle.format.specs.Syntax.{Objective, Epistemic, Program, Action, change, Sheet}
+use Rattle.states.specs.Sets.{words, member, setOf}
+use Rattle.format.specs.Syntax.{Objective, Epistemic, Program, actionNodes, Action, change, Sheet}
 use Rattle.format.specs.Truth.{truth, holds}
-use Rattle.format.specs.Format.{got, accepted, deepest, epistemic, reading}
+use Rattle.format.specs.Format.{got, gives, deepest, mostActs, epistemic, reading}
 use Rattle.format.specs.Standing.{ObjectiveAt, RepliesAt, ActionAt, ActionsAt, ProgramAt}
 use Rattle.routine.specs.declared.memory.Node.{Node}
 use Rattle.routine.specs.declared.actions.Laid.{Laid}
-use Rattle.routine.specs.declared.conditions.Extent.{Extent}
-use Rattle.routine.specs.declared.program.Filled.{Filled}
-use Rattle.routine.specs.Memory.{write, words, cells, headMost, nodeMost, setMost}
-use Rattle.routine.specs.Tables.{rows, actionSets, headCells, atoms, atomSets, tests, size, programAtoms, programSets, programNodes}
+use Rattle.routine.specs.declared.conditions.Filled.{Filled}
+use Rattle.routine.specs.Memory.{write, cells, headMost, nodeMost, setMost}
+use Rattle.routine.specs.Tables.{rows, actionSets, headCells, atoms, atomSets, formulaSize, formulaNodes, size, programAtoms, programSets, programNodes}
 
 -- The head of an action is written as that of action a and its sets from set k on, and r is where they end.
 abbrev pub ActionWritten : (space : States) (a k : ℕ) (heads heads′ sets sets′ : List ℕ) (r : Laid) (x : Action) (q : ℕ) → Type 0
@@ -25,21 +24,30 @@ ActionWritten space a k heads heads′ sets sets′ r x q =
     × (heads′ ≡ write heads (3 * a) (headCells (member space) k (x ∷ [])))
     × (sets′ ≡ write sets (4 * k) (flatMap words (actionSets (member space) x)))
 
--- The tests and the sets of a formula are written from node `base` and from set k on, and r is its extent.
-abbrev pub TestsWritten : (base k met unmet : ℕ) (f : Epistemic) (q : ℕ) (nodes nodes′ sets sets′ : List ℕ) → Extent → Type 0
-TestsWritten base k met unmet f q nodes nodes′ sets sets′ r =
-    (r ≡ record { atoms = atoms f; at = q })
-    × (nodes′ ≡ write nodes (4 * base) (flatMap cells (tests f k met unmet)))
-    × (sets′ ≡ write sets (4 * k) (flatMap words (atomSets f)))
+-- How far the tables are written behind a formula or a program that ends at q.
+abbrev pub behindFormula : Filled → Epistemic → (q : ℕ) → Filled
+behindFormula from f q = record { at = q; node = from .node + formulaSize f; set = from .set + atoms f; acts = from .acts }
 
--- Where a program ends: in the sheet, among the nodes and among the sets.
-abbrev pub filledTo : (base k : ℕ) (x : Program) (q : ℕ) → Filled
-filledTo base k x q = record { at = q; node = base + size x; set = k + programAtoms x }
+abbrev pub behindProgram : Filled → Program → (q : ℕ) → Filled
+behindProgram from x q = record { at = q; node = from .node + size x; set = from .set + programAtoms x; acts = from .acts + actionNodes x }
 
--- The nodes and the sets of a program are written from node `base` and from set k on, and r is where it ends.
-abbrev pub NodesWritten : (base k : ℕ) (x : Program) (q : ℕ) (nodes nodes′ sets sets′ : List ℕ) → Filled → Type 0
-NodesWritten base k x q nodes nodes′ sets sets′ r =
-    (r ≡ filledTo base k x q) × (nodes′ ≡ write nodes (4 * base) (flatMap cells (programNodes x k))) × (sets′ ≡ write sets (4 * k) (flatMap words (programSets x)))
+-- Its nodes and its sets are written, and r is how far.
+abbrev pub FormulaWritten : Filled → (f : Epistemic) (q : ℕ) (nodes nodes′ sets sets′ : List ℕ) → Filled → Type 0
+FormulaWritten from f q nodes nodes′ sets sets′ r =
+    (r ≡ behindFormula from f q)
+    × (nodes′ ≡ write nodes (3 * from .node) (flatMap cells (formulaNodes f (from .set))))
+    × (sets′ ≡ write sets (4 * from .set) (flatMap words (atomSets f)))
+
+abbrev pub ProgramWritten : Filled → (x : Program) (q : ℕ) (nodes nodes′ sets sets′ : List ℕ) → Filled → Type 0
+ProgramWritten from x q nodes nodes′ sets sets′ r =
+    (r ≡ behindProgram from x q)
+    × (nodes′ ≡ write nodes (3 * from .node) (flatMap cells (programNodes x (from .set) (from .acts))))
+    × (sets′ ≡ write sets (4 * from .set) (flatMap words (programSets x)))
+
+-- The nodes of a goal and a program: those of a sheet whose actions have k sets.
+abbrev pub routineNodes : (goal : Epistemic) (program : Program) (k : ℕ) → List Node
+routineNodes goal program k =
+    Node.Jump (formulaSize goal) ∷ (formulaNodes goal k ++ (programNodes program (k + atoms goal) 0 ++ (Node.End (actionNodes program) ∷ [])))
 
 module _ (bytes : List ℕ) (n : ℕ) where
   -- A position is where the theory at another ends.
@@ -97,57 +105,61 @@ module _ (bytes : List ℕ) (n : ℕ) where
         × (heads′ ≡ write heads 0 (headCells (member space) 0 actions))
         × (sets′ ≡ write sets 0 (flatMap words (flatMap (actionSets (member space)) actions)))
 
-  -- r is the extent of an atom whose objective formula stands at a position.
-  abbrev pub AtomMeasures : (at : ℕ) → Extent → Type 0
-  AtomMeasures at r = (f : Objective) (q : ℕ) → ObjectiveAt bytes n false f at q → r ≡ record { atoms = 1; at = q }
-
-  -- The test of such an atom and its set are written, and r is its extent.
-  abbrev pub AtomFills : (at base k met unmet : ℕ) (nodes nodes′ sets sets′ : List ℕ) → Extent → Type 0
-  AtomFills at base k met unmet nodes nodes′ sets sets′ r =
+  -- The node and the set of an atom are written whose objective formula stands at a position, and r is how far.
+  abbrev pub AtomFills : (at : ℕ) (from : Filled) (node : Node) (nodes nodes′ sets sets′ : List ℕ) → Filled → Type 0
+  AtomFills at from node nodes nodes′ sets sets′ r =
       (f : Objective) (q : ℕ) → ObjectiveAt bytes n false f at q
-      → (r ≡ record { atoms = 1; at = q })
-      × (nodes′ ≡ write nodes (4 * base) (cells (Node.Test k met unmet)))
-      × (sets′ ≡ write sets (4 * k) (words (setOf (λ s. holds f s))))
+      → (r ≡ record { at = q; node = from .node + 1; set = from .set + 1; acts = from .acts })
+      × (nodes′ ≡ write nodes (3 * from .node) (cells node))
+      × (sets′ ≡ write sets (4 * from .set) (words (setOf (λ s. holds f s))))
 
-  -- An epistemic formula of at most `left` levels is read at a position.
-  pub record Formula (left at : ℕ) : Type 0 where
+  -- An epistemic formula of at most `left` levels is read at a position, and its nodes and its sets have room.
+  pub record FormulaRoom (left : ℕ) (from : Filled) : Type 0 where
     pub formula : Epistemic
     pub next : ℕ
-    pub read : epistemic n left bytes at ≡ got formula next
+    pub read : epistemic n left bytes (from .at) ≡ got formula next
     pub levels : left ≤ deepest
+    pub nodes-room : from .node + formulaSize formula ≤ nodeMost
+    pub sets-room : from .set + atoms formula ≤ setMost
 
-  -- r is its extent.
-  abbrev pub Measures : (left at : ℕ) → Extent → Type 0
-  Measures left at r = (f : Epistemic) (q : ℕ) → epistemic n left bytes at ≡ got f q → r ≡ record { atoms = atoms f; at = q }
-
-  -- The same with room for its tests from node `base` on and its sets from set k on; it goes on with a node of the memory.
-  pub record FormulaRoom (left at base k met unmet : ℕ) : Type 0 where
-    pub formula : Epistemic
-    pub next : ℕ
-    pub read : epistemic n left bytes at ≡ got formula next
-    pub levels : left ≤ deepest
-    pub sets-room : k + atoms formula ≤ setMost
-    pub met-inside : base + atoms formula + met ≤ nodeMost
-    pub unmet-inside : base + atoms formula + unmet ≤ nodeMost
-
-  -- Its tests and its sets are written, and r is its extent.
-  abbrev pub FormulaFills : (left at base k met unmet : ℕ) (nodes nodes′ sets sets′ : List ℕ) → Extent → Type 0
-  FormulaFills left at base k met unmet nodes nodes′ sets sets′ r =
-      (f : Epistemic) (q : ℕ) → epistemic n left bytes at ≡ got f q → TestsWritten base k met unmet f q nodes nodes′ sets sets′ r
+  -- They are written.
+  abbrev pub FormulaFills : (left : ℕ) (from : Filled) (nodes nodes′ sets sets′ : List ℕ) → Filled → Type 0
+  FormulaFills left from nodes nodes′ sets sets′ r =
+      (f : Epistemic) (q : ℕ) → epistemic n left bytes (from .at) ≡ got f q → FormulaWritten from f q nodes nodes′ sets sets′ r
 
   -- A program stands at a position, and its nodes and its sets have room.
-  pub record ProgramRoom (at base k : ℕ) : Type 0 where
+  pub record ProgramRoom (from : Filled) : Type 0 where
     pub program : Program
     pub next : ℕ
-    pub stands : ProgramAt bytes n program at next
-    pub nodes-room : base + size program ≤ nodeMost
-    pub sets-room : k + programAtoms program ≤ setMost
+    pub stands : ProgramAt bytes n program (from .at) next
+    pub nodes-room : from .node + size program ≤ nodeMost
+    pub sets-room : from .set + programAtoms program ≤ setMost
+    pub acts-room : from .acts + actionNodes program ≤ mostActs
 
-  -- Its nodes and its sets are written, and r is where they end.
-  abbrev pub ProgramFills : (at base k : ℕ) (nodes nodes′ sets sets′ : List ℕ) → Filled → Type 0
-  ProgramFills at base k nodes nodes′ sets sets′ r = (x : Program) (q : ℕ) → ProgramAt bytes n x at q → NodesWritten base k x q nodes nodes′ sets sets′ r
+  -- They are written.
+  abbrev pub ProgramFills : (from : Filled) (nodes nodes′ sets sets′ : List ℕ) → Filled → Type 0
+  ProgramFills from nodes nodes′ sets sets′ r = (x : Program) (q : ℕ) → ProgramAt bytes n x (from .at) q → ProgramWritten from x q nodes nodes′ sets sets′ r
+
+  -- A goal is read at a position and a program stands behind it, and their nodes and their sets have room.
+  pub record RoutineRoom (at k : ℕ) : Type 0 where
+    pub goal : Epistemic
+    pub program : Program
+    pub middle : ℕ
+    pub next : ℕ
+    pub read : epistemic n deepest bytes at ≡ got goal middle
+    pub stands : ProgramAt bytes n program middle next
+    pub nodes-room : formulaSize goal + size program + 2 ≤ nodeMost
+    pub sets-room : k + (atoms goal + programAtoms program) ≤ setMost
+    pub acts-room : actionNodes program ≤ mostActs
+
+  -- They are written.
+  abbrev pub RoutineFills : (at k : ℕ) (nodes nodes′ sets sets′ : List ℕ) → Type 0
+  RoutineFills at k nodes nodes′ sets sets′ =
+      (goal : Epistemic) (program : Program) (middle next : ℕ) → epistemic n deepest bytes at ≡ got goal middle → ProgramAt bytes n program middle next
+      → (nodes′ ≡ write nodes 0 (flatMap cells (routineNodes goal program k)))
+      × (sets′ ≡ write sets (4 * k) (flatMap words (atomSets goal ++ programSets program)))
 
 -- A sheet is accepted.
 pub record Acceptable (bytes : List ℕ) : Type 0 where
   pub sheet : Sheet
-  pub read : reading bytes ≡ accepted sheet
+  pub read : reading bytes ≡ gives sheet

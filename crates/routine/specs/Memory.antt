@@ -1,9 +1,10 @@
--- What stands in the memory of a routine's tables, whatever numbers are in it: sets of states, nodes of the program, heads of actions.
+-- What stands in the memory of a routine's tables, whatever numbers are in it: sets of states, nodes of the program and of its formulas, heads of actions.
 use Prim.Native.Nat.{ℕ, _+_, _*_, _<_}
+use mathlib.Core.Path.{_≡_}
 use mathlib.Core.List.{List, [], _∷_}
-use mathlib.Core.Bool.{true, false}
+use mathlib.Core.Bool.{false}
 use lib.Dec.{ltb, eqb}
-use lib.ListN.{getD, set}
+use lib.ListN.{length, getD, set}
 use Rattle.lists.specs.Lists.{if_then_else_}
 use Rattle.states.specs.declared.States.{States}
 use Rattle.states.specs.Sets.{setOf}
@@ -15,33 +16,41 @@ unfoldable pub write : (memory : List ℕ) (i : ℕ) (numbers : List ℕ) → Li
 write memory i [] = memory
 write memory i (x ∷ xs) = write (set memory i x) (i + 1) xs
 
--- A set as its four words, a node as four numbers.
-unfoldable pub words : States → List ℕ
-words set = set .w0 ∷ set .w1 ∷ set .w2 ∷ set .w3 ∷ []
-
+-- A node as three numbers.
 unfoldable pub cells : Node → List ℕ
-cells (Node.Act a) = 0 ∷ a ∷ 0 ∷ 0 ∷ []
-cells (Node.Test k met unmet) = 1 ∷ k ∷ met ∷ unmet ∷ []
-cells (Node.Jump skip) = 2 ∷ 0 ∷ skip ∷ 0 ∷ []
-cells (Node.End true) = 3 ∷ 1 ∷ 0 ∷ 0 ∷ []
-cells (Node.End false) = 3 ∷ 0 ∷ 0 ∷ 0 ∷ []
+cells (Node.Act a number) = 0 ∷ a ∷ number ∷ []
+cells (Node.Branch met unmet) = 1 ∷ met ∷ unmet ∷ []
+cells (Node.Jump skip) = 2 ∷ skip ∷ 0 ∷ []
+cells (Node.All size) = 3 ∷ size ∷ 0 ∷ []
+cells (Node.Any size) = 4 ∷ size ∷ 0 ∷ []
+cells (Node.Known k) = 5 ∷ k ∷ 0 ∷ []
+cells (Node.NotKnown k) = 6 ∷ k ∷ 0 ∷ []
+cells (Node.End count) = 7 ∷ count ∷ 0 ∷ []
 
 -- The numbers of a node fit 16 bits.
 unfoldable pub Small : Node → Type 0
-Small (Node.Act a) = a < 65536
-Small (Node.Test k met unmet) = (k < 65536) × (met < 65536) × (unmet < 65536)
+Small (Node.Act a number) = (a < 65536) × (number < 65536)
+Small (Node.Branch met unmet) = (met < 65536) × (unmet < 65536)
 Small (Node.Jump skip) = skip < 65536
-Small (Node.End holds) = Unit {0}
+Small (Node.All size) = size < 65536
+Small (Node.Any size) = size < 65536
+Small (Node.Known k) = k < 65536
+Small (Node.NotKnown k) = k < 65536
+Small (Node.End count) = count < 65536
 
 -- The limits of the memory: heads, nodes, sets.
 abbrev pub headMost : ℕ
 headMost = 31
 
 abbrev pub nodeMost : ℕ
-nodeMost = 2048
+nodeMost = 4096
 
 abbrev pub setMost : ℕ
 setMost = 10240
+
+-- Memories of the lengths that their types fix. (The logic doesn't know the length of an array behind a reference: what is promised of lent tables supposes it.)
+abbrev pub Sized : (heads nodes sets : List ℕ) → Type 0
+Sized heads nodes sets = (length heads ≡ 3 * headMost) × (length nodes ≡ 3 * nodeMost) × (length sets ≡ 4 * setMost)
 
 -- Set k of a memory; past the last the empty one.
 unfoldable pub setAt : (sets : List ℕ) (k : ℕ) → States
@@ -50,20 +59,23 @@ setAt sets k =
     if ltb k setMost then record { w0 = getD sets (4 * k) 0; w1 = getD sets (4 * k + 1) 0; w2 = getD sets (4 * k + 2) 0; w3 = getD sets (4 * k + 3) 0 }
     else setOf (λ s. false)
 
--- The node that four numbers are.
-unfoldable pub nodeOf : (kind operand met unmet : ℕ) → Node
+-- The node that three numbers are.
+unfoldable pub nodeOf : (kind operand second : ℕ) → Node
 unfolding if_then_else_
-nodeOf kind operand met unmet =
-    if eqb kind 0 then Node.Act operand
-    else if eqb kind 1 then Node.Test operand met unmet
-    else if eqb kind 2 then Node.Jump met
-    else Node.End (eqb operand 1)
+nodeOf kind operand second =
+    if eqb kind 0 then Node.Act operand second
+    else if eqb kind 1 then Node.Branch operand second
+    else if eqb kind 2 then Node.Jump operand
+    else if eqb kind 3 then Node.All operand
+    else if eqb kind 4 then Node.Any operand
+    else if eqb kind 5 then Node.Known operand
+    else if eqb kind 6 then Node.NotKnown operand
+    else Node.End operand
 
--- Node i of a memory; past the last an end at which the goal fails.
+-- Node i of a memory; past the last an end.
 unfoldable pub nodeAt : (nodes : List ℕ) (i : ℕ) → Node
 unfolding if_then_else_ nodeOf
-nodeAt nodes i =
-    if ltb i nodeMost then nodeOf (getD nodes (4 * i) 0) (getD nodes (4 * i + 1) 0) (getD nodes (4 * i + 2) 0) (getD nodes (4 * i + 3) 0) else Node.End false
+nodeAt nodes i = if ltb i nodeMost then nodeOf (getD nodes (3 * i) 0) (getD nodes (3 * i + 1) 0) (getD nodes (3 * i + 2) 0) else Node.End 0
 
 -- The head of action a in a memory; past the last one without replies.
 unfoldable pub headAt : (heads : List ℕ) (a : ℕ) → Head

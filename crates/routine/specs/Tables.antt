@@ -2,19 +2,19 @@
 use Prim.Native.Nat.{ℕ, suc, _+_}
 use mathlib.Core.Path.{_≡_, refl}
 use mathlib.Core.List.{List, [], _∷_, _++_, map, flatMap}
-use mathlib.Core.Bool.{Bool, true, false, _&&_}
+use mathlib.Core.Bool.{Bool, _&&_}
 use lib.Dec.{ltb}
 use lib.ListN.{length, take}
 use Rattle.lists.specs.Lists.{upFrom, below}
 use Rattle.states.specs.declared.States.{States}
-use Rattle.states.specs.Sets.{setOf}
-use Rattle.format.specs.Syntax.{top, fact, negation, Epistemic, known, not-known, all-of, any-of, Program, end, act, branch, Action, change, probe, replyCount, Sheet}
+use Rattle.states.specs.Sets.{words, setOf}
+use Rattle.format.specs.Syntax.{top, fact, negation, Epistemic, known, not-known, all-of, any-of, Program, end, act, branch, Action, change, probe, actionNodes, replyCount, Sheet}
 use Rattle.format.specs.Truth.{isState, holds, truth, replyHolds}
-use Rattle.format.specs.Format.{Answer, accepted, refused}
+use Rattle.format.specs.Format.{Answer, gives, refused, onAccepted}
 use Rattle.reader.specs.Answers.{numberOf}
 use Rattle.routine.specs.declared.memory.Node.{Node}
 use Rattle.routine.specs.declared.sheet.Prepared.{Prepared}
-use Rattle.routine.specs.Memory.{write, words, cells}
+use Rattle.routine.specs.Memory.{write, cells}
 
 -- The table of each reply: the states after the effect in which it is true. ("after a probe, the same state, with a reply true in it"; 2013: the states where the reply holds.)
 unfoldable pub replyTables : Action → List States
@@ -56,20 +56,27 @@ atomSets (not-known f) = setOf (λ s. holds f s) ∷ []
 atomSets (all-of f g) = atomSets f ++ atomSets g
 atomSets (any-of f g) = atomSets f ++ atomSets g
 
--- The tests of an epistemic formula whose sets stand from set k on ("And, or, not read as usual."): where it holds, `met` nodes behind its last are skipped, else `unmet`.
-unfoldable pub tests : Epistemic → (k met unmet : ℕ) → List Node
-unfolding atoms
-tests (known f) k met unmet = Node.Test k met unmet ∷ []
-tests (not-known f) k met unmet = Node.Test k unmet met ∷ []
-tests (all-of f g) k met unmet = tests f k 0 (atoms g + unmet) ++ tests g (k + atoms f) met unmet
-tests (any-of f g) k met unmet = tests f k (atoms g + met) 0 ++ tests g (k + atoms f) met unmet
+-- The nodes of an epistemic formula: "known and not known count as nodes"; "and" and "or" do too.
+unfoldable pub formulaSize : Epistemic → ℕ
+formulaSize (known f) = 1
+formulaSize (not-known f) = 1
+formulaSize (all-of f g) = suc (formulaSize f + formulaSize g)
+formulaSize (any-of f g) = suc (formulaSize f + formulaSize g)
+
+-- They stand in reading order, the sets of the atoms from set k on. "And" and "or" tell how many nodes their first part has, behind which the second stands.
+unfoldable pub formulaNodes : Epistemic → (k : ℕ) → List Node
+unfolding atoms formulaSize
+formulaNodes (known f) k = Node.Known k ∷ []
+formulaNodes (not-known f) k = Node.NotKnown k ∷ []
+formulaNodes (all-of f g) k = Node.All (formulaSize f) ∷ (formulaNodes f k ++ formulaNodes g (k + atoms f))
+formulaNodes (any-of f g) k = Node.Any (formulaSize f) ∷ (formulaNodes f k ++ formulaNodes g (k + atoms f))
 
 -- The nodes of a program, the atoms of its conditions, and their sets, in reading order.
 unfoldable pub size : Program → ℕ
-unfolding atoms
+unfolding formulaSize
 size end = 0
 size (act a rest) = suc (size rest)
-size (branch f y z rest) = atoms f + (size y + suc (size z + size rest))
+size (branch f y z rest) = suc (formulaSize f + (size y + suc (size z + size rest)))
 
 unfoldable pub programAtoms : Program → ℕ
 unfolding atoms
@@ -83,34 +90,43 @@ programSets end = []
 programSets (act a rest) = programSets rest
 programSets (branch f y z rest) = atomSets f ++ (programSets y ++ (programSets z ++ programSets rest))
 
--- The nodes of a program whose sets stand from set k on. At its end it goes on with the node behind its last. "a branch goes to its then-program if its condition holds after the
--- history so far, else to its else-program, and afterwards to its rest": where the condition holds the then-program follows, behind whose end a jump leads over the
--- else-program to the rest; else the then-program and this jump are skipped, and behind the else-program stands the rest. So every jump goes forward.
-unfoldable pub programNodes : Program → (k : ℕ) → List Node
-unfolding tests atoms size programAtoms
-programNodes end k = []
-programNodes (act a rest) k = Node.Act a ∷ programNodes rest k
-programNodes (branch f y z rest) k =
-    tests f k 0 (suc (size y))
-    ++ (programNodes y (k + atoms f)
+-- The nodes of a program in reading order ("branch (epistemic formula, then-program, else-program, rest)"), its sets from set k on, its first action node being number c of all. At its
+-- end it goes on with the node behind its last. "a branch goes to its then-program if its condition holds after the history so far, else to its else-program, and
+-- afterwards to its rest": behind the branch stands its condition, and is skipped; where it holds the then-program follows, behind whose end a jump leads over the
+-- else-program to the rest; else the then-program and this jump are skipped too, and behind the else-program stands the rest. So every jump goes forward.
+unfoldable pub programNodes : Program → (k c : ℕ) → List Node
+unfolding formulaNodes formulaSize atoms size programAtoms actionNodes
+programNodes end k c = []
+programNodes (act a rest) k c = Node.Act a c ∷ programNodes rest k (c + 1)
+programNodes (branch f y z rest) k c =
+    Node.Branch (formulaSize f) (formulaSize f + suc (size y))
+    ∷ (formulaNodes f k
+    ++ (programNodes y (k + atoms f) c
     ++ (Node.Jump (size z)
-    ∷ (programNodes z (k + atoms f + programAtoms y) ++ programNodes rest (k + atoms f + programAtoms y + programAtoms z))))
+    ∷ (programNodes z (k + atoms f + programAtoms y) (c + actionNodes y)
+    ++ programNodes rest (k + atoms f + programAtoms y + programAtoms z) (c + actionNodes y + actionNodes z)))))
 
--- The sets of a sheet: those of its actions, of its conditions and of its goal.
+-- The sets of a sheet: those of its actions, of its goal and of its conditions.
 unfoldable pub sheetActionSets : Sheet → List States
 unfolding flatMap actionSets isState
 sheetActionSets sheet = flatMap (actionSets (isState sheet)) (sheet .actions)
 
 unfoldable pub sheetSets : Sheet → List States
 unfolding sheetActionSets programSets atomSets
-sheetSets sheet = sheetActionSets sheet ++ (programSets (sheet .program) ++ atomSets (sheet .goal))
+sheetSets sheet = sheetActionSets sheet ++ (atomSets (sheet .goal) ++ programSets (sheet .program))
 
--- The nodes of a sheet: its program, behind it the tests of its goal, and the two ends.
+-- The node from which on the goal stands.
+abbrev pub goalNode : ℕ
+goalNode = 1
+
+-- The nodes of a sheet, in its order: a jump over the goal, which stands from node 1 on, the program, and the end.
 unfoldable pub sheetNodes : Sheet → List Node
-unfolding sheetActionSets programNodes programAtoms tests
+unfolding sheetActionSets formulaNodes formulaSize atoms programNodes actionNodes
 sheetNodes sheet =
-    programNodes (sheet .program) (length (sheetActionSets sheet))
-    ++ (tests (sheet .goal) (length (sheetActionSets sheet) + programAtoms (sheet .program)) 0 1 ++ (Node.End true ∷ Node.End false ∷ []))
+    Node.Jump (formulaSize (sheet .goal))
+    ∷ (formulaNodes (sheet .goal) (length (sheetActionSets sheet))
+    ++ (programNodes (sheet .program) (length (sheetActionSets sheet) + atoms (sheet .goal)) 0
+    ++ (Node.End (actionNodes (sheet .program)) ∷ [])))
 
 -- The heads of a sheet's actions.
 unfoldable pub sheetHeads : Sheet → List ℕ
@@ -125,18 +141,17 @@ sheetStart sheet = setOf (λ s. isState sheet s && holds (sheet .start) s)
 -- What the answer means: the start set, or the number of the refusal.
 unfoldable pub preparedOf : Prepared → Answer States
 unfolding numberOf
-preparedOf (Prepared.Ready start) = accepted start
+preparedOf (Prepared.Ready start) = gives start
 preparedOf (Prepared.Refused r) = refused (numberOf r)
 
 unfoldable pub startOf : Answer Sheet → Answer States
-unfolding sheetStart
-startOf (accepted sheet) = accepted (sheetStart sheet)
-startOf (refused r) = refused r
+unfolding sheetStart onAccepted
+startOf answer = onAccepted (λ (sheet : Sheet). gives (sheetStart sheet)) answer
 
 -- A memory after a sheet was prepared: what the sheet has is written from its first place on; a refused sheet leaves it as it was.
 unfoldable pub prepared : (Sheet → List ℕ) → Answer Sheet → (memory : List ℕ) → List ℕ
 unfolding write
-prepared has (accepted sheet) memory = write memory 0 (has sheet)
+prepared has (gives sheet) memory = write memory 0 (has sheet)
 prepared has (refused r) memory = memory
 
 -- What a sheet has in each memory.
@@ -163,13 +178,15 @@ two-heads : headCells (λ s. ltb s 2) 0 (change top ∷ probe (fact 0 ∷ negati
 unfolding headCells
 two-heads = refl
 
--- A branch: its condition skips the then-program and the jump behind it; the jump skips the else-program, and the rest stands behind that.
-branch-nodes : programNodes (branch (known (fact 0)) (act 0 end) (act 1 (act 2 end)) (act 3 end)) 5
-    ≡ Node.Test 5 0 2 ∷ Node.Act 0 ∷ Node.Jump 2 ∷ Node.Act 1 ∷ Node.Act 2 ∷ Node.Act 3 ∷ []
+-- A branch skips its condition, or that, the then-program and the jump behind it; the jump skips the else-program, and the rest stands behind that. The action nodes
+-- are numbered in reading order.
+branch-nodes : programNodes (branch (known (fact 0)) (act 8 end) (act 6 (act 8 end)) (act 7 end)) 5 0
+    ≡ Node.Branch 1 3 ∷ Node.Known 5 ∷ Node.Act 8 0 ∷ Node.Jump 2 ∷ Node.Act 6 1 ∷ Node.Act 8 2 ∷ Node.Act 7 3 ∷ []
 unfolding programNodes
 branch-nodes = refl
 
--- A condition with both connectives: each test skips what no longer decides.
-condition-tests : tests (all-of (known (fact 0)) (any-of (not-known (fact 1)) (known (fact 2)))) 0 0 7 ≡ Node.Test 0 0 9 ∷ Node.Test 1 0 1 ∷ Node.Test 2 0 7 ∷ []
-unfolding tests
-condition-tests = refl
+-- A condition with both connectives, in reading order.
+condition-nodes : formulaNodes (all-of (any-of (not-known (fact 1)) (known (fact 2))) (known (fact 0))) 4
+    ≡ Node.All 3 ∷ Node.Any 1 ∷ Node.NotKnown 4 ∷ Node.Known 5 ∷ Node.Known 6 ∷ []
+unfolding formulaNodes
+condition-nodes = refl

@@ -6,6 +6,7 @@ mod memory;
 mod program;
 mod sheet;
 
+pub use limits::GOAL;
 pub use limits::HEAD_CELLS;
 pub use limits::NODE_CELLS;
 pub use limits::NODES;

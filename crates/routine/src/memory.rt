@@ -1,4 +1,5 @@
-// What stands in the lent memory: sets of states, four words each; nodes of a program, four numbers each; heads of actions, three numbers each.
+// What stands in the lent memory: sets of states, four words each; nodes of a program and of its formulas, and heads of
+// actions, three numbers each.
 use crate::limits::ACTIONS;
 use crate::limits::HEAD_CELLS;
 use crate::limits::NODE_CELLS;
@@ -9,15 +10,23 @@ use states::States;
 ghost use mathlib.Core.Path.{_≡_};
 ghost use mathlib.Core.List.{[], _∷_};
 ghost use Prim.Native.Nat.{_*_, _<_};
-ghost use Rattle.routine.specs.Memory.{write, words, cells, Small, headMost, nodeMost, setMost, setAt, nodeAt, headAt};
+ghost use Rattle.states.specs.Sets.{words};
+ghost use Rattle.routine.specs.Memory.{write, cells, Small, headMost, nodeMost, setMost, setAt, nodeOf, nodeAt, headAt};
 
-// A node: an action by its number; a test of an atom by the number of its set, and how many nodes are skipped if it is
-// known and if it isn't; a jump over so many nodes; the end, and whether the goal holds there.
+// A node. Of a program: an action by its number, and the node's own number among the action nodes in reading order; a
+// branch, whose condition stands behind it, and how many nodes are skipped if that holds and if it doesn't; a jump over so
+// many nodes; the end, and how many action nodes there are. Of an epistemic formula, in reading order: "and" and "or" with
+// the size of their first part, which stands behind them, and behind it the second; "known" and "not known" with the
+// number of their set.
 pub enum Node {
-    Act(usize),
-    Test(usize, usize, usize),
+    Act(usize, usize),
+    Branch(usize, usize),
     Jump(usize),
-    End(bool),
+    End(usize),
+    All(usize),
+    Any(usize),
+    Known(usize),
+    NotKnown(usize),
 }
 
 // Where an action's sets stand: from `rows` on the states that may follow each state, if the action changes facts; from
@@ -50,27 +59,33 @@ fn wide(x: u16) -> usize
     x as usize
 }
 
-// Node i; past the last an end at which the goal fails. Its numbers fit 16 bits, whatever the memory holds.
+// The node that three numbers are.
+fn node_of(kind: usize, operand: usize, second: usize) -> Node
+    ensures { λ r. ⌜ r ≡ nodeOf kind operand second ⌝ }
+{
+    match kind {
+        0 => Node::Act(operand, second),
+        1 => Node::Branch(operand, second),
+        2 => Node::Jump(operand),
+        3 => Node::All(operand),
+        4 => Node::Any(operand),
+        5 => Node::Known(operand),
+        6 => Node::NotKnown(operand),
+        _ => Node::End(operand),
+    }
+}
+
+// Node i; past the last an end. Its numbers fit 16 bits, whatever the memory holds.
 pub fn node_at(nodes: &[u16; NODE_CELLS], i: usize) -> Node
     ensures { λ r. ⌜ (r ≡ nodeAt (now (nodes .entry)) i) × Small r ⌝ }
 {
     if NODES <= i {
-        return Node::End(false);
+        return Node::End(0);
     }
-    let kind = wide(nodes[4 * i]);
-    let operand = wide(nodes[4 * i + 1]);
-    let met = wide(nodes[4 * i + 2]);
-    let unmet = wide(nodes[4 * i + 3]);
-    if kind == 0 {
-        return Node::Act(operand);
-    }
-    if kind == 1 {
-        return Node::Test(operand, met, unmet);
-    }
-    if kind == 2 {
-        return Node::Jump(met);
-    }
-    Node::End(operand == 1)
+    let kind = wide(nodes[3 * i]);
+    let operand = wide(nodes[3 * i + 1]);
+    let second = wide(nodes[3 * i + 2]);
+    node_of(kind, operand, second)
 }
 
 // The head of action a; past the last one without replies. Its numbers fit 16 bits, whatever the memory holds.
@@ -94,51 +109,41 @@ pub fn head_at(heads: &[u16; HEAD_CELLS], a: usize) -> Head
     }
 }
 
-// Writes set k. (Places are counted one by one, as `write` does.)
+// Writes set k.
 pub(crate) fn put_set(sets: &mut [u64; SET_WORDS], k: usize, set: States)
     requires { ⌜ k < setMost ⌝ }
     ensures { λ r. ⌜ now (sets .exit) ≡ write (now (sets .entry)) (4 * k) (words set) ⌝ }
 {
     sets[4 * k] = set.w0;
     sets[4 * k + 1] = set.w1;
-    sets[4 * k + 1 + 1] = set.w2;
-    sets[4 * k + 1 + 1 + 1] = set.w3;
+    sets[4 * k + 2] = set.w2;
+    sets[4 * k + 3] = set.w3;
 }
 
-// Writes the four numbers of node i.
-fn put_cells(
-    nodes: &mut [u16; NODE_CELLS],
-    i: usize,
-    kind: u16,
-    operand: usize,
-    met: usize,
-    unmet: usize,
-)
-    requires { ⌜ (i < nodeMost) × (operand < 65536) × (met < 65536) × (unmet < 65536) ⌝ }
-    ensures { λ r. ⌜ now (nodes .exit) ≡ write (now (nodes .entry)) (4 * i) (kind ∷ operand ∷ met ∷ unmet ∷ []) ⌝ }
+// Writes the three numbers of node i.
+fn put_cells(nodes: &mut [u16; NODE_CELLS], i: usize, kind: u16, operand: usize, second: usize)
+    requires { ⌜ (i < nodeMost) × (operand < 65536) × (second < 65536) ⌝ }
+    ensures { λ r. ⌜ now (nodes .exit) ≡ write (now (nodes .entry)) (3 * i) (kind ∷ operand ∷ second ∷ []) ⌝ }
 {
-    nodes[4 * i] = kind;
-    nodes[4 * i + 1] = operand as u16;
-    nodes[4 * i + 1 + 1] = met as u16;
-    nodes[4 * i + 1 + 1 + 1] = unmet as u16;
+    nodes[3 * i] = kind;
+    nodes[3 * i + 1] = operand as u16;
+    nodes[3 * i + 2] = second as u16;
 }
 
 // Writes node i.
 pub(crate) fn put_node(nodes: &mut [u16; NODE_CELLS], i: usize, node: Node)
     requires { ⌜ (i < nodeMost) × Small node ⌝ }
-    ensures { λ r. ⌜ now (nodes .exit) ≡ write (now (nodes .entry)) (4 * i) (cells node) ⌝ }
+    ensures { λ r. ⌜ now (nodes .exit) ≡ write (now (nodes .entry)) (3 * i) (cells node) ⌝ }
 {
     match node {
-        Node::Act(a) => put_cells(nodes, i, 0, a, 0, 0),
-        Node::Test(k, met, unmet) => put_cells(nodes, i, 1, k, met, unmet),
-        Node::Jump(skip) => put_cells(nodes, i, 2, 0, skip, 0),
-        Node::End(holds) => {
-            if holds {
-                put_cells(nodes, i, 3, 1, 0, 0);
-            } else {
-                put_cells(nodes, i, 3, 0, 0, 0);
-            }
-        }
+        Node::Act(a, number) => put_cells(nodes, i, 0, a, number),
+        Node::Branch(met, unmet) => put_cells(nodes, i, 1, met, unmet),
+        Node::Jump(skip) => put_cells(nodes, i, 2, skip, 0),
+        Node::All(size) => put_cells(nodes, i, 3, size, 0),
+        Node::Any(size) => put_cells(nodes, i, 4, size, 0),
+        Node::Known(k) => put_cells(nodes, i, 5, k, 0),
+        Node::NotKnown(k) => put_cells(nodes, i, 6, k, 0),
+        Node::End(count) => put_cells(nodes, i, 7, count, 0),
     }
 }
 
@@ -155,5 +160,5 @@ pub(crate) fn put_head(
 {
     heads[3 * a] = rows as u16;
     heads[3 * a + 1] = replies as u16;
-    heads[3 * a + 1 + 1] = count as u16;
+    heads[3 * a + 2] = count as u16;
 }

@@ -1,7 +1,8 @@
 // A sheet as tables.
 use crate::actions::fill_actions;
-use crate::conditions::fill_tests;
-use crate::conditions::measure;
+use crate::conditions::Filled;
+use crate::conditions::fill_formula;
+use crate::limits::GOAL;
 use crate::limits::HEAD_CELLS;
 use crate::limits::NODE_CELLS;
 use crate::limits::SET_WORDS;
@@ -19,14 +20,40 @@ use reader::objective_states;
 use reader::read;
 use states::States;
 ghost use mathlib.Core.Path.{_≡_};
-ghost use Rattle.format.specs.Format.{reading};
+ghost use Prim.Native.Nat.{_≤_};
+ghost use lib.ListN.{length};
+ghost use Rattle.format.specs.Format.{mostBytes, reading};
 ghost use Rattle.routine.specs.Tables.{preparedOf, startOf, prepared as preparedBy, sheetHeads, nodeCells, setWords};
-ghost use Rattle.routine.specs.Filling.{Acceptable};
+ghost use Rattle.routine.specs.Filling.{RoutineRoom, RoutineFills, Acceptable};
 
 // The start set of an accepted sheet, or the refusal.
 pub enum Prepared {
     Ready(States),
     Refused(Refusal),
+}
+
+// Writes the nodes of the goal and the program at a position, and their sets from set k on.
+fn fill_routine(
+    bytes: &[u8],
+    at: usize,
+    n: usize,
+    k: usize,
+    nodes: &mut [u16; NODE_CELLS],
+    sets: &mut [u64; SET_WORDS],
+)
+    requires { ⌜ (length (now bytes) ≤ mostBytes) × RoutineRoom (now bytes) n at k ⌝ }
+    ensures { λ r. ⌜ RoutineFills (now (bytes .entry)) n at k (now (nodes .entry)) (now (nodes .exit)) (now (sets .entry)) (now (sets .exit)) ⌝ }
+{
+    let from = Filled {
+        at: at,
+        node: GOAL,
+        set: k,
+        acts: 0,
+    };
+    let goal = fill_formula(bytes, from, n, DEPTH, nodes, sets);
+    put_node(nodes, 0, Node::Jump(goal.node - GOAL));
+    let program = fill_program(bytes, goal, n, nodes, sets);
+    put_node(nodes, program.node, Node::End(program.acts));
 }
 
 // Writes the tables of an accepted sheet. Its parts stand in it, so that no refusal is ever met.
@@ -49,27 +76,11 @@ fn fill(
     else {
         return Prepared::Refused(Refusal::Cut);
     };
-    let goal = measure(bytes, goal_at, n, DEPTH);
-    let program = fill_program(bytes, goal.at, n, 0, actions.set, nodes, sets);
-    fill_tests(
-        bytes,
-        goal_at,
-        n,
-        DEPTH,
-        program.node,
-        program.set,
-        0,
-        1,
-        nodes,
-        sets,
-    );
-    let last = program.node + goal.atoms;
-    put_node(nodes, last, Node::End(true));
-    put_node(nodes, last + 1, Node::End(false));
+    fill_routine(bytes, goal_at, n, actions.set, nodes, sets);
     Prepared::Ready(space.intersect(start))
 }
 
-// A sheet as tables in lent memory: where the sets of its actions stand, the nodes of its program and of its goal, and
+// A sheet as tables in lent memory: where the sets of its actions stand, the nodes of its goal and of its program, and
 // its sets of states. A refused sheet leaves the memory as it was.
 pub fn prepare(
     bytes: &[u8],

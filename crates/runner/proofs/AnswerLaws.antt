@@ -3,7 +3,7 @@ use Prim.Native.Nat.{ℕ}
 use mathlib.Core.Path.{_≡_, refl, sym, ap, _∙_}
 use lib.Dec.{eqb}
 use Rattle.lists.specs.Lists.{if_then_else_}
-use Rattle.format.specs.Format.{Answer, accepted, refused}
+use Rattle.format.specs.Format.{Answer, gives, refused}
 use Rattle.semantics.specs.Replies.{Told as Telling, to-do, at-end}
 use Rattle.runner.specs.declared.answer.Rejection.{Rejection}
 use Rattle.runner.specs.declared.answer.Told.{Told}
@@ -12,8 +12,8 @@ use Rattle.runner.specs.Answers.{toldOf, reportedOf}
 
 -- The answer of "Next" that has a meaning.
 unfoldable toldFor : Answer Telling → Told
-toldFor (accepted (to-do a)) = Told.Act a
-toldFor (accepted (at-end holds)) = Told.End holds
+toldFor (gives (to-do a)) = Told.Act a
+toldFor (gives (at-end holds)) = Told.End holds
 toldFor (refused k) = Told.BadRecord
 
 telling-back : (t : Told) → toldFor (toldOf t) ≡ t
@@ -32,7 +32,7 @@ rejectionFor k = if eqb k 31 then Rejection.BadRecord else if eqb k 32 then Reje
 
 unfoldable reportedFor : Answer (Unit {0}) → Reported
 unfolding rejectionFor
-reportedFor (accepted u) = Reported.Accepted
+reportedFor (gives u) = Reported.Accepted
 reportedFor (refused k) = Reported.Refused (rejectionFor k)
 
 report-back : (t : Reported) → reportedFor (reportedOf t) ≡ t

@@ -1,17 +1,17 @@
--- What "Next" and "Report" make of a record, one law for each case: not padded; padded; the report refused; the report accepted. Assumes nothing.
+-- What 31 asks of a record, part by part, and what an accepted report makes of it. Assumes nothing.
 use Prim.Native.Nat.{ℕ, suc, _+_, _-_, _≤_, _<_}
 use native.Mathlib.Omega.{arith}
 use mathlib.Core.Path.{_≡_, refl, sym, _∙_, ap}
 use mathlib.Core.List.{List, [], _∷_, _++_, append-assoc}
-use mathlib.Core.Bool.{Bool, true, false, _&&_}
-use lib.Dec.{leb, eqb, ltb}
-use lib.ListN.{length, replicate, take, drop, set, getD, length-append, length-drop}
+use mathlib.Core.Bool.{Bool, true, false}
+use lib.Dec.{eqb, ltb}
+use lib.ListN.{length, replicate, take, drop, set, getD, length-append, length-drop, take-append-drop}
 use lib.Seq.{drop-cons, set-split, length-take-le}
-use borrow.Author.Tests.{eqb-true, leb-true}
+use borrow.Author.Tests.{eqb-true}
 use Rattle.lists.specs.Lists.{if_then_else_, every}
 use Rattle.lists.proofs.ListLaws.{both-true}
 use Rattle.format.specs.Syntax.{replyCount, Sheet, actionOf}
-use Rattle.format.specs.Format.{Answer, accepted, refused, reading}
+use Rattle.format.specs.Format.{Answer, gives, refused, onAccepted, reading}
 use Rattle.reader.specs.Answers.{withoutValue}
 use Rattle.reader.proofs.AnswerLaws.{was-accepted}
 use Rattle.semantics.specs.Runs.{History, entry}
@@ -19,45 +19,45 @@ use Rattle.semantics.specs.Routine.{Policy, done, perform, routine}
 use Rattle.semantics.specs.Replies.{leftAfter, historyOf, stillPossible, reportedTo, reported, areOfRun}
 use Rattle.semantics.proofs.ReplyLaws.{accepted-run}
 use Rattle.semantics.proofs.AcceptedLaws.{replies-most}
-use Rattle.runner.specs.declared.kept.Record.{Record}
-use Rattle.runner.specs.Records.{padded, areZero, heldSheet, heldReplies, isPadded, resumed, heldBy, nextOf, nextOn, reportOf, reportOn, recordWith, recordAfter}
+use Rattle.runner.specs.declared.calls.Record.{Record}
+use Rattle.runner.specs.Records.{padded, areZero, recordOf, recordFor, heldSheet, heldReplies, badRecord, isPadded, sheetIn, areReplies, passing, heldBy, reportOn, recordAfter}
+use Rattle.runner.proofs.RecordLaws.{padded-within, padded-rest}
 
 -- An answer that without its value is a refusal changes no record.
-pub refused-unchanged : (r : Record) (k : ℕ) (a : Answer (List ℕ)) → refused k ≡ withoutValue a → r ≡ recordWith r a
-unfolding withoutValue recordWith
-refused-unchanged r k (accepted x) e = let z : _≡_ {A = ℕ} 0 1 = cc in absurd (omega arith)
-refused-unchanged r k (refused m) e = refl
+pub refused-unchanged : {A : Type 0} (made : A → Record) (r : Record) (k : ℕ) (a : Answer A) → refused k ≡ withoutValue a → r ≡ recordFor r made a
+unfolding withoutValue recordFor
+refused-unchanged made r k (gives x) e = let z : _≡_ {A = ℕ} 0 1 = cc in absurd (omega arith)
+refused-unchanged made r k (refused m) e = refl
+
+-- What follows on an acceptance is accepted where both are.
+on-accepted : {A B : Type 0} (f : A → Answer B) (a : Answer A) (y : B) → onAccepted f a ≡ gives y → (x : A) × (a ≡ gives x) × (f x ≡ gives y)
+unfolding onAccepted
+on-accepted f (gives x) y e = (x, refl, e)
+on-accepted f (refused k) y e = let z : _≡_ {A = ℕ} 0 1 = cc in absurd (omega arith)
+
+-- What passes the test of 31.
+passing-passed : {A : Type 0} (test : A → Bool) (a : Answer A) (x : A) → passing test a ≡ gives x → (a ≡ gives x) × (test x ≡ true)
+unfolding passing if_then_else_
+passing-passed test (refused k) x e = let z : _≡_ {A = ℕ} 0 1 = cc in absurd (omega arith)
+passing-passed test (gives y) x e = go (test y) refl e
+  where
+    go : (b : Bool) → test y ≡ b → (if b then gives y else badRecord) ≡ gives x → (gives y ≡ gives x) × (test x ≡ true)
+    go true t k = let same : y ≡ x = cc in (k, sym (ap test same) ∙ t)
+    go false t k = let z : _≡_ {A = ℕ} 0 1 = cc in absurd (omega arith)
 
 -- An accepted report adds its reply to the replies.
-pub reported-adds : (sheet : Sheet) (rs : List ℕ) (x : ℕ) (qs : List ℕ) → reported sheet rs x ≡ accepted qs → qs ≡ rs ++ (x ∷ [])
+pub reported-adds : (sheet : Sheet) (rs : List ℕ) (x : ℕ) (qs : List ℕ) → reported sheet rs x ≡ gives qs → qs ≡ rs ++ (x ∷ [])
 unfolding reported reportedTo if_then_else_
 reported-adds sheet rs x qs e = go (leftAfter (routine sheet) rs) (historyOf (routine sheet) rs) e
   where
-    tests : (b c : Bool) → (if b then (if c then accepted (rs ++ (x ∷ [])) else refused 34) else refused 33) ≡ accepted qs → qs ≡ rs ++ (x ∷ [])
+    tests : (b c : Bool) → (if b then (if c then gives (rs ++ (x ∷ [])) else refused 34) else refused 33) ≡ gives qs → qs ≡ rs ++ (x ∷ [])
     tests true true k = cc
     tests true false k = let z : _≡_ {A = ℕ} 0 1 = cc in absurd (omega arith)
     tests false c k = let z : _≡_ {A = ℕ} 0 1 = cc in absurd (omega arith)
 
-    go : (p : Policy) (h : History) → reportedTo sheet p h rs x ≡ accepted qs → qs ≡ rs ++ (x ∷ [])
+    go : (p : Policy) (h : History) → reportedTo sheet p h rs x ≡ gives qs → qs ≡ rs ++ (x ∷ [])
     go done h k = let z : _≡_ {A = ℕ} 0 1 = cc in absurd (omega arith)
     go (perform a after) h k = tests (ltb x (replyCount (actionOf sheet a))) (stillPossible sheet h (entry a x)) k
-
--- An accepted report to a resumed sheet is one to a sheet that is accepted.
-report-resumed : (a : Answer Sheet) (rs : List ℕ) (x : ℕ) (qs : List ℕ) → reportOf (resumed a rs) rs x ≡ accepted qs → (sheet : Sheet) × (a ≡ accepted sheet) × (reported sheet rs x ≡ accepted qs)
-unfolding reportOf resumed if_then_else_
-report-resumed (refused k) rs x qs e = let z : _≡_ {A = ℕ} 0 1 = cc in absurd (omega arith)
-report-resumed (accepted sheet) rs x qs e = (sheet, refl, go (areOfRun sheet rs) e)
-  where
-    go : (b : Bool) → reportOf (if b then accepted sheet else refused 31) rs x ≡ accepted qs → reported sheet rs x ≡ accepted qs
-    go true k = k
-    go false k = let z : _≡_ {A = ℕ} 0 1 = cc in absurd (omega arith)
-
--- So it adds its reply too, and there are at most 64 replies then.
-report-adds : (bytes rs : List ℕ) (x : ℕ) (qs : List ℕ) → reportOf (resumed (reading bytes) rs) rs x ≡ accepted qs → (qs ≡ rs ++ (x ∷ [])) × (length (rs ++ (x ∷ [])) ≤ 64)
-report-adds bytes rs x qs e =
-    let k = report-resumed (reading bytes) rs x qs e in
-    let q = reported-adds (k .0) rs x qs (k .2) in
-    (q, replies-most bytes (k .0) (k .1) (rs ++ (x ∷ [])) (accepted-run (k .0) rs x (k .2 ∙ ap accepted q)))
 
 -- Bytes that are all 0 are that many zeros.
 zeros-are : (xs : List ℕ) → areZero xs ≡ true → xs ≡ replicate {A = ℕ} (length xs) 0
@@ -88,75 +88,90 @@ written-padded l xs c x e h z =
     ∙ ap (λ (ys : List ℕ). take c xs ++ x ∷ ys) (left ∙ ap (λ (n : ℕ). replicate {A = ℕ} n 0) len)
     ∙ sym (append-assoc (take c xs) (x ∷ []) (replicate {A = ℕ} (l - length (take c xs ++ (x ∷ []))) 0))
 
+-- A padded array is the bytes before the length and zeros behind them, and there are as many.
+module _ (l : ℕ) (xs : List ℕ) (n : ℕ) (e : length xs ≡ l) (h : isPadded l xs n ≡ true) where
+  pub before-length : length (take n xs) ≡ n
+  before-length = length-take-le n xs (omega (arith, padded-within l xs n h))
+
+  pub padded-back : padded l (take n xs) ≡ xs
+  unfolding padded
+  padded-back =
+      let left = zeros-are (drop n xs) (padded-rest l xs n h) in
+      let len : l - length (take n xs) ≡ length (drop n xs) = omega (arith, length-drop n xs, before-length) in
+      ap (λ (k : ℕ). take n xs ++ replicate {A = ℕ} k 0) len ∙ ap (λ (ys : List ℕ). take n xs ++ ys) (sym left) ∙ take-append-drop n xs
+
 module _ (r : Record) where
-  -- What the test of a padded record tells.
-  padded-tests : isPadded r ≡ true → (leb (r .len) 1024 && leb (r .count) 64 ≡ true) × (areZero (drop (r .len) (r .sheet)) && areZero (drop (r .count) (r .replies)) ≡ true)
-  unfolding isPadded
-  padded-tests h = both-true (leb (r .len) 1024 && leb (r .count) 64) (areZero (drop (r .len) (r .sheet)) && areZero (drop (r .count) (r .replies))) h
+  -- What a record holds, by what the parts of 31 say.
+  pub sheet-padded : isPadded 1024 (r .sheet) (r .len) ≡ true → sheetIn r ≡ reading (heldSheet r)
+  unfolding sheetIn if_then_else_
+  sheet-padded h = ap (λ (b : Bool). if b then reading (heldSheet r) else badRecord) h
 
-  pub padded-len : isPadded r ≡ true → r .len ≤ 1024
-  padded-len h = leb-true (r .len) 1024 ((both-true (leb (r .len) 1024) (leb (r .count) 64) (padded-tests h .0)) .0)
+  pub sheet-not : isPadded 1024 (r .sheet) (r .len) ≡ false → sheetIn r ≡ badRecord
+  unfolding sheetIn if_then_else_
+  sheet-not h = ap (λ (b : Bool). if b then reading (heldSheet r) else badRecord) h
 
-  pub padded-count : isPadded r ≡ true → r .count ≤ 64
-  padded-count h = leb-true (r .count) 64 ((both-true (leb (r .len) 1024) (leb (r .count) 64) (padded-tests h .0)) .1)
+  pub held-is : (sheet : Sheet) (b : Bool) → sheetIn r ≡ gives sheet → areReplies sheet (r .replies) (r .count) ≡ b → heldBy r ≡ (if b then gives sheet else badRecord)
+  unfolding heldBy passing
+  held-is sheet b e t =
+      ap (passing (λ (s : Sheet). areReplies s (r .replies) (r .count))) e ∙ ap (λ (c : Bool). if c then gives sheet else badRecord) t
 
-  padded-replies : isPadded r ≡ true → areZero (drop (r .count) (r .replies)) ≡ true
-  padded-replies h = (both-true (areZero (drop (r .len) (r .sheet))) (areZero (drop (r .count) (r .replies))) (padded-tests h .1)) .1
+  pub held-refused : (k : ℕ) → sheetIn r ≡ refused k → heldBy r ≡ badRecord
+  unfolding heldBy passing
+  held-refused k e = ap (passing (λ (s : Sheet). areReplies s (r .replies) (r .count))) e
 
-  -- What a record holds: not padded, 31; padded, the sheet of its bytes if its replies are those of a run.
-  held-not : isPadded r ≡ false → heldBy r ≡ refused 31
-  unfolding heldBy if_then_else_
-  held-not h = ap (λ (b : Bool). if b then resumed (reading (heldSheet r)) (heldReplies r) else refused 31) h
+  -- And back.
+  pub sheet-accepted : (sheet : Sheet) → sheetIn r ≡ gives sheet → (isPadded 1024 (r .sheet) (r .len) ≡ true) × (reading (heldSheet r) ≡ gives sheet)
+  sheet-accepted sheet e = go (isPadded 1024 (r .sheet) (r .len)) refl
+    where
+      go : (b : Bool) → isPadded 1024 (r .sheet) (r .len) ≡ b → (isPadded 1024 (r .sheet) (r .len) ≡ true) × (reading (heldSheet r) ≡ gives sheet)
+      go true h = (h, sym (sheet-padded h) ∙ e)
+      go false h = let no-way : badRecord ≡ gives sheet = sym (sheet-not h) ∙ e in let z : _≡_ {A = ℕ} 0 1 = cc in absurd (omega arith)
 
-  pub held-padded : isPadded r ≡ true → heldBy r ≡ resumed (reading (heldSheet r)) (heldReplies r)
-  unfolding heldBy if_then_else_
-  held-padded h = ap (λ (b : Bool). if b then resumed (reading (heldSheet r)) (heldReplies r) else refused 31) h
-
-  -- So it is with "Next", and with "Report", which changes a record that isn't padded in nothing.
-  pub next-not : isPadded r ≡ false → nextOn r ≡ refused 31
-  unfolding nextOn nextOf
-  next-not h = ap (λ (a : Answer Sheet). nextOf a (heldReplies r)) (held-not h)
-
-  pub next-padded : isPadded r ≡ true → nextOn r ≡ nextOf (resumed (reading (take (r .len) (r .sheet))) (take (r .count) (r .replies))) (take (r .count) (r .replies))
-  unfolding nextOn
-  next-padded h = ap (λ (a : Answer Sheet). nextOf a (heldReplies r)) (held-padded h)
+  pub held-parts : (sheet : Sheet) → heldBy r ≡ gives sheet
+      → (isPadded 1024 (r .sheet) (r .len) ≡ true) × (reading (heldSheet r) ≡ gives sheet) × (isPadded 64 (r .replies) (r .count) ≡ true) × (areOfRun sheet (heldReplies r) ≡ true)
+  unfolding heldBy areReplies heldReplies
+  held-parts sheet e =
+      let p = passing-passed (λ (s : Sheet). areReplies s (r .replies) (r .count)) (sheetIn r) sheet e in
+      let s = sheet-accepted sheet (p .0) in
+      let t = both-true (isPadded 64 (r .replies) (r .count)) (areOfRun sheet (take (r .count) (r .replies))) (p .1) in
+      (s .0, s .1, t .0, t .1)
 
   module _ (x : ℕ) where
-    pub report-not : isPadded r ≡ false → reportOn r x ≡ refused 31
-    unfolding reportOn reportOf
-    report-not h = ap (λ (a : Answer Sheet). reportOf a (heldReplies r) x) (held-not h)
-
-    pub after-not : isPadded r ≡ false → recordAfter r x ≡ r
-    unfolding recordAfter recordWith
-    after-not h = ap (recordWith r) (report-not h)
-
-    pub report-padded : isPadded r ≡ true → reportOn r x ≡ reportOf (resumed (reading (take (r .len) (r .sheet))) (take (r .count) (r .replies))) (take (r .count) (r .replies)) x
-    unfolding reportOn
-    report-padded h = ap (λ (a : Answer Sheet). reportOf a (heldReplies r) x) (held-padded h)
-
     -- A refused report changes nothing.
     pub after-refused : (k : ℕ) → refused k ≡ withoutValue (reportOn r x) → r ≡ recordAfter r x
     unfolding recordAfter
-    after-refused k e = refused-unchanged r k (reportOn r x) e
+    after-refused k e = refused-unchanged (recordOf (heldSheet r)) r k (reportOn r x) e
 
-    -- An accepted report: there was room, and its reply stands behind the others.
-    module _ (sized : length (r .replies) ≡ 64) (h : isPadded r ≡ true) (e : accepted tt ≡ withoutValue (reportOn r x)) where
-      accepted-is : (reportOn r x ≡ accepted (heldReplies r ++ (x ∷ []))) × (length (heldReplies r ++ (x ∷ [])) ≤ 64)
-      unfolding heldReplies heldSheet
-      accepted-is =
+    -- An accepted report: the record was not refused, there was room, and its reply stands behind the others.
+    module _ (sheet-sized : length (r .sheet) ≡ 1024) (replies-sized : length (r .replies) ≡ 64) (e : gives tt ≡ withoutValue (reportOn r x)) where
+      by-sheet : (qs : List ℕ) × (reportOn r x ≡ gives qs) × ((sheet : Sheet) × (heldBy r ≡ gives sheet) × (reported sheet (heldReplies r) x ≡ gives qs))
+      unfolding reportOn
+      by-sheet =
           let a = was-accepted (reportOn r x) e in
-          let q = report-adds (heldSheet r) (heldReplies r) x (a .0) (sym (report-padded h) ∙ a .1) in
-          (a .1 ∙ ap accepted (q .0), q .1)
+          (a .0, a .1, on-accepted (λ (s : Sheet). reported s (heldReplies r) x) (heldBy r) (a .0) (a .1))
+
+      parts : (isPadded 1024 (r .sheet) (r .len) ≡ true) × (reading (heldSheet r) ≡ gives (by-sheet .2 .0)) × (isPadded 64 (r .replies) (r .count) ≡ true) × (areOfRun (by-sheet .2 .0) (heldReplies r) ≡ true)
+      parts = held-parts (by-sheet .2 .0) (by-sheet .2 .1)
+
+      added : reportOn r x ≡ gives (heldReplies r ++ (x ∷ []))
+      added = by-sheet .1 ∙ ap gives (reported-adds (by-sheet .2 .0) (heldReplies r) x (by-sheet .0) (by-sheet .2 .2))
+
+      at-most : length (heldReplies r ++ (x ∷ [])) ≤ 64
+      at-most =
+          let q = reported-adds (by-sheet .2 .0) (heldReplies r) x (by-sheet .0) (by-sheet .2 .2) in
+          replies-most (heldSheet r) (by-sheet .2 .0) (parts .1) (heldReplies r ++ (x ∷ [])) (accepted-run (by-sheet .2 .0) (heldReplies r) x (by-sheet .2 .2 ∙ ap gives q))
+
+      longer : length (heldReplies r ++ (x ∷ [])) ≡ r .count + 1
+      unfolding heldReplies
+      longer = omega (arith, length-append (take (r .count) (r .replies)) (x ∷ []), before-length 64 (r .replies) (r .count) replies-sized (parts .2))
 
       pub has-room : r .count < 64
-      unfolding heldReplies
-      has-room =
-          omega (arith, accepted-is .1, length-append (take (r .count) (r .replies)) (x ∷ []), length-take-le (r .count) (r .replies) (omega (arith, padded-count h)))
+      has-room = omega (arith, at-most, longer)
 
       pub after-accepted : record { sheet = r .sheet; len = r .len; replies = set (r .replies) (r .count) x; count = r .count + 1 } ≡ recordAfter r x
-      unfolding recordAfter recordWith heldReplies
+      unfolding recordAfter recordFor recordOf heldReplies heldSheet
       after-accepted =
-          let w = written-padded 64 (r .replies) (r .count) x sized has-room (padded-replies h) in
-          let n : r .count + 1 ≡ length (take (r .count) (r .replies) ++ (x ∷ [])) =
-          omega (arith, length-append (take (r .count) (r .replies)) (x ∷ []), length-take-le (r .count) (r .replies) (omega (arith, padded-count h))) in
-          (λ i. record { sheet = r .sheet; len = r .len; replies = w i; count = n i }) ∙ sym (ap (recordWith r) (accepted-is .0))
+          let w = written-padded 64 (r .replies) (r .count) x replies-sized has-room (padded-rest 64 (r .replies) (r .count) (parts .2)) in
+          let s = sym (padded-back 1024 (r .sheet) (r .len) sheet-sized (parts .0)) in
+          let n = sym (before-length 1024 (r .sheet) (r .len) sheet-sized (parts .0)) in
+          (λ i. record { sheet = s i; len = n i; replies = w i; count = sym longer i }) ∙ sym (ap (recordFor r (recordOf (heldSheet r))) added)

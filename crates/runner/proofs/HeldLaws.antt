@@ -1,20 +1,23 @@
 -- The record that belongs to a sheet and to replies of a run: what it holds, and what "Next" and "Report" make of it. Assumes nothing.
 use Prim.Native.Nat.{ℕ, zero, suc, _-_, _≤_}
-use mathlib.Core.Path.{_≡_, refl, ap, _∙_}
-use mathlib.Core.List.{List, []}
-use mathlib.Core.Bool.{Bool, true, _&&_}
+use mathlib.Core.Path.{_≡_, refl, sym, ap, _∙_}
+use mathlib.Core.Logic.{_↔_}
+use mathlib.Core.List.{List}
+use mathlib.Core.Bool.{true}
 use lib.ListN.{length, replicate, take, drop}
 use lib.Seq.{take-append-seam, drop-append-seam}
-use borrow.Author.Tests.{le-leb}
 use Rattle.lists.specs.Lists.{if_then_else_, every}
+use Rattle.lists.proofs.ListLaws.{and-both}
 use Rattle.format.specs.Syntax.{Sheet}
-use Rattle.format.specs.Format.{Answer, accepted, refused, reading}
+use Rattle.format.specs.Format.{gives, refused, onAccepted, reading}
 use Rattle.format.proofs.SheetLaws.{accepted-length}
-use Rattle.semantics.specs.Replies.{told, reported, RepliesOfRun}
-use Rattle.semantics.proofs.ReplyLaws.{run-of}
+use Rattle.semantics.specs.Replies.{told, reported, RepliesOfRun, areOfRun}
+use Rattle.semantics.proofs.ReplyLaws.{of-run, run-of}
 use Rattle.semantics.proofs.AcceptedLaws.{replies-most}
-use Rattle.runner.specs.Records.{padded, areZero, recordOf, loaded, loadedFor, heldSheet, heldReplies, isPadded, resumed, heldBy, nextOf, nextOn, reportOf, reportOn, recordWith, recordAfter}
-use Rattle.runner.proofs.CallLaws.{held-padded}
+use Rattle.runner.specs.declared.calls.Record.{Record}
+use Rattle.runner.specs.Records.{padded, areZero, recordOf, recordFor, heldSheet, heldReplies, isPadded, sheetIn, areReplies, heldBy, nextOn, reportOn, recordAfter}
+use Rattle.runner.proofs.RecordLaws.{rest-decides}
+use Rattle.runner.proofs.CallLaws.{sheet-padded, held-is, held-parts, before-length, padded-back}
 
 -- Zeros are zeros.
 zeros-zero : (n : ℕ) → areZero (replicate n 0) ≡ true
@@ -31,6 +34,10 @@ before-bytes : (l : ℕ) (xs : List ℕ) → take (length xs) (padded l xs) ≡ 
 unfolding padded
 before-bytes l xs = take-append-seam xs (replicate (l - length xs) 0)
 
+-- So bytes and zeros behind them are padded.
+is-padded : (l : ℕ) (xs : List ℕ) → length xs ≤ l → isPadded l (padded l xs) (length xs) ≡ true
+is-padded l xs h = rest-decides l (padded l xs) (length xs) h ∙ behind-zero l xs
+
 module _ (bytes rs : List ℕ) where
   held-sheet : heldSheet (recordOf bytes rs) ≡ bytes
   unfolding heldSheet recordOf
@@ -40,38 +47,51 @@ module _ (bytes rs : List ℕ) where
   unfolding heldReplies recordOf
   held-replies = before-bytes 64 rs
 
-  record-padded : length bytes ≤ 1024 → length rs ≤ 64 → isPadded (recordOf bytes rs) ≡ true
-  unfolding isPadded recordOf
-  record-padded s r =
-      (λ i. (le-leb (length bytes) 1024 s i && le-leb (length rs) 64 r i) && (behind-zero 1024 bytes i && behind-zero 64 rs i))
+module _ (bytes : List ℕ) (sheet : Sheet) (read : reading bytes ≡ gives sheet) (rs : List ℕ) (run : RepliesOfRun sheet rs) where
+  sheet-held : sheetIn (recordOf bytes rs) ≡ gives sheet
+  unfolding recordOf
+  sheet-held = sheet-padded (recordOf bytes rs) (is-padded 1024 bytes (accepted-length bytes sheet read)) ∙ ap reading (held-sheet bytes rs) ∙ read
 
--- Loading.
-pub loaded-record : (bytes : List ℕ) (sheet : Sheet) → reading bytes ≡ accepted sheet → loaded bytes ≡ recordOf bytes []
-unfolding loaded loadedFor
-loaded-record bytes sheet read = ap (loadedFor bytes) read
+  replies-held : areReplies sheet (recordOf bytes rs .replies) (recordOf bytes rs .count) ≡ true
+  unfolding areReplies recordOf
+  replies-held =
+      and-both (isPadded 64 (padded 64 rs) (length rs)) (areOfRun sheet (take (length rs) (padded 64 rs)))
+      (is-padded 64 rs (replies-most bytes sheet read rs run)) (ap (areOfRun sheet) (before-bytes 64 rs) ∙ run-of sheet rs run)
 
-module _ (bytes : List ℕ) (sheet : Sheet) (read : reading bytes ≡ accepted sheet) (rs : List ℕ) (run : RepliesOfRun sheet rs) where
-  held : heldBy (recordOf bytes rs) ≡ accepted sheet
-  unfolding resumed if_then_else_
-  held =
-      held-padded (recordOf bytes rs) (record-padded bytes rs (accepted-length bytes sheet read) (replies-most bytes sheet read rs run))
-      ∙ (λ i. resumed (reading (held-sheet bytes rs i)) (held-replies bytes rs i))
-      ∙ ap (λ (a : Answer Sheet). resumed a rs) read
-      ∙ ap (λ (b : Bool). if b then accepted sheet else refused 31) (run-of sheet rs run)
+  held : heldBy (recordOf bytes rs) ≡ gives sheet
+  unfolding if_then_else_
+  held = held-is (recordOf bytes rs) sheet true sheet-held replies-held
 
-  pub next-held : nextOn (recordOf bytes rs) ≡ accepted (told sheet rs)
-  unfolding nextOn nextOf
-  next-held = λ i. nextOf (held i) (held-replies bytes rs i)
+  pub next-held : nextOn (recordOf bytes rs) ≡ gives (told sheet rs)
+  unfolding nextOn onAccepted
+  next-held = λ i. onAccepted (λ (s : Sheet). gives (told s (held-replies bytes rs i))) (held i)
 
   pub report-held : (reply : ℕ) → reportOn (recordOf bytes rs) reply ≡ reported sheet rs reply
-  unfolding reportOn reportOf
-  report-held reply = λ i. reportOf (held i) (held-replies bytes rs i) reply
+  unfolding reportOn onAccepted
+  report-held reply = λ i. onAccepted (λ (s : Sheet). reported s (held-replies bytes rs i) reply) (held i)
 
   -- After a report that adds replies it is the record that belongs to these; after a refused one it is the same.
-  pub after-added : (reply : ℕ) (qs : List ℕ) → reported sheet rs reply ≡ accepted qs → recordAfter (recordOf bytes rs) reply ≡ recordOf bytes qs
-  unfolding recordAfter recordWith recordOf
-  after-added reply qs e = ap (recordWith (recordOf bytes rs)) (report-held reply ∙ e)
+  pub after-added : (reply : ℕ) (qs : List ℕ) → reported sheet rs reply ≡ gives qs → recordAfter (recordOf bytes rs) reply ≡ recordOf bytes qs
+  unfolding recordAfter recordFor
+  after-added reply qs e =
+      ap (recordFor (recordOf bytes rs) (recordOf (heldSheet (recordOf bytes rs)))) (report-held reply ∙ e) ∙ ap (λ (b : List ℕ). recordOf b qs) (held-sheet bytes rs)
 
   pub after-refused : (reply k : ℕ) → reported sheet rs reply ≡ refused k → recordAfter (recordOf bytes rs) reply ≡ recordOf bytes rs
-  unfolding recordAfter recordWith
-  after-refused reply k e = ap (recordWith (recordOf bytes rs)) (report-held reply ∙ e)
+  unfolding recordAfter recordFor
+  after-refused reply k e = ap (recordFor (recordOf bytes rs) (recordOf (heldSheet (recordOf bytes rs)))) (report-held reply ∙ e)
+
+-- 31 by `recordOf`: a record isn't refused, and holds a sheet, exactly if it is the record of bytes that are this sheet and of replies of a run. (The lengths of its arrays are
+-- those of their types.)
+module _ (r : Record) (sheet-sized : length (r .sheet) ≡ 1024) (replies-sized : length (r .replies) ≡ 64) (sheet : Sheet) where
+  pub held-record : (heldBy r ≡ gives sheet) ↔ ((bytes : List ℕ) × (rs : List ℕ) × (r ≡ recordOf bytes rs) × (reading bytes ≡ gives sheet) × RepliesOfRun sheet rs)
+  unfolding recordOf heldSheet heldReplies
+  held-record = (
+    λ e.
+        let p = held-parts r sheet e in
+        let bytes = sym (padded-back 1024 (r .sheet) (r .len) sheet-sized (p .0)) in
+        let len = sym (before-length 1024 (r .sheet) (r .len) sheet-sized (p .0)) in
+        let replies = sym (padded-back 64 (r .replies) (r .count) replies-sized (p .2)) in
+        let count = sym (before-length 64 (r .replies) (r .count) replies-sized (p .2)) in
+        (heldSheet r, heldReplies r, λ i. record { sheet = bytes i; len = len i; replies = replies i; count = count i }, p .1, of-run sheet (heldReplies r) (p .3)),
+    λ q. ap heldBy (q .2) ∙ held (q .0) sheet (q .3) (q .1) (q .4),
+  )

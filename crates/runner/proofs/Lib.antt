@@ -1,8 +1,8 @@
 pub mod Sizes
 pub mod RecordLaws
 pub mod StandLaws
-pub mod WalkLaws
 pub mod CallLaws
+pub mod WalkLaws
 pub mod HeldLaws
 pub mod AnswerLaws
 pub mod GivenLaws

@@ -7,7 +7,7 @@ use mathlib.Core.List.{List, [], _∷_, _++_, map, append-nil, append-assoc, hea
 use mathlib.Core.Bool.{Bool, true, false}
 use native.Mathlib.Omega.{arith}
 use Rattle.format.specs.Syntax.{Sheet}
-use Rattle.format.specs.Format.{accepted, reading}
+use Rattle.format.specs.Format.{gives, reading}
 use Rattle.reader.specs.Answers.{answerOf as readOf, withoutValue}
 use Rattle.reader.proofs.AnswerLaws.{was-accepted, was-refused}
 use Rattle.semantics.specs.Runs.{Entry, History, replies, holdsAfter}
@@ -19,14 +19,15 @@ use Rattle.semantics.proofs.AcceptedLaws.{starts, entries-fit, EntriesFit, told
 use Rattle.runner.specs.declared.answer.Rejection.{Rejection}
 use Rattle.runner.specs.declared.answer.Told.{Told}
 use Rattle.runner.specs.declared.answer.Reported.{Reported}
-use Rattle.runner.specs.declared.kept.Record.{Record}
-use Rattle.runner.specs.declared.kept.AfterLoad.{AfterLoad}
-use Rattle.runner.specs.declared.kept.AfterNext.{AfterNext}
-use Rattle.runner.specs.declared.kept.AfterReport.{AfterReport}
+use Rattle.runner.specs.declared.calls.Record.{Record}
+use Rattle.runner.specs.declared.calls.AfterLoad.{AfterLoad}
+use Rattle.runner.specs.declared.calls.AfterNext.{AfterNext}
+use Rattle.runner.specs.declared.calls.AfterReport.{AfterReport}
 use Rattle.runner.specs.Records.{recordOf, loaded, nextOn, reportOn, recordAfter}
 use Rattle.runner.specs.Answers.{rejectionNumber, toldOf, reportedOf}
+use Rattle.runner.proofs.RecordLaws.{loaded-record}
 use Rattle.runner.proofs.CallLaws.{reported-adds}
-use Rattle.runner.proofs.HeldLaws.{loaded-record, next-held, report-held, after-added, after-refused}
+use Rattle.runner.proofs.HeldLaws.{next-held, report-held, after-added, after-refused}
 use Rattle.runner.specs.Calls.{Call, Event, asked, replied, callOf, Bytes, acceptedIn, Runner, Calls, ListsRun, none, then-next, then-report, AfterCalls}
 use Rattle.runner.proofs.AnswerLaws.{told-one, reported-one}
 
@@ -72,35 +73,35 @@ unfolding EntriesFit Bytes reportsOf
 reports-bytes [] f = tt
 reports-bytes (e ∷ h) f = (omega (arith, f .1), reports-bytes h (f .2))
 
-module _ {ℓ} (runner : Runner {ℓ}) (contracts : RunnerContracts runner) (bytes : List ℕ) (sheet : Sheet) (read : reading bytes ≡ accepted sheet) where
+module _ {ℓ} (runner : Runner {ℓ}) (contracts : RunnerContracts runner) (bytes : List ℕ) (sheet : Sheet) (read : reading bytes ≡ gives sheet) where
   -- The record that belongs to the sheet and to replies of a run.
   module _ (rs : List ℕ) (run : RepliesOfRun sheet rs) where
-    told-is : (t : AfterNext) → runner .tells (recordOf bytes rs) t → toldOf (t .answer) ≡ accepted (told sheet rs)
+    told-is : (t : AfterNext) → runner .tells (recordOf bytes rs) t → toldOf (t .answer) ≡ gives (told sheet rs)
     told-is t c = contracts .next-contract (recordOf bytes rs) t c .0 ∙ next-held bytes sheet read rs run
 
     told-end-is : (t : AfterNext) → runner .tells (recordOf bytes rs) t → (b : Bool) → (t .answer ≡ Told.End b) ↔ (told sheet rs ≡ at-end b)
     unfolding toldOf
     told-end-is t c b = (
-      λ e. let k : accepted (at-end b) ≡ accepted (told sheet rs) = sym (ap toldOf e) ∙ told-is t c in cc,
-      λ e. told-one (t .answer) (Told.End b) (told-is t c ∙ ap accepted e),
+      λ e. let k : gives (at-end b) ≡ gives (told sheet rs) = sym (ap toldOf e) ∙ told-is t c in cc,
+      λ e. told-one (t .answer) (Told.End b) (told-is t c ∙ ap gives e),
     )
 
     told-act-is : (t : AfterNext) → runner .tells (recordOf bytes rs) t → (a : ℕ) → (t .answer ≡ Told.Act a) ↔ (told sheet rs ≡ to-do a)
     unfolding toldOf
     told-act-is t c a = (
-      λ e. let k : accepted (to-do a) ≡ accepted (told sheet rs) = sym (ap toldOf e) ∙ told-is t c in cc,
-      λ e. told-one (t .answer) (Told.Act a) (told-is t c ∙ ap accepted e),
+      λ e. let k : gives (to-do a) ≡ gives (told sheet rs) = sym (ap toldOf e) ∙ told-is t c in cc,
+      λ e. told-one (t .answer) (Told.Act a) (told-is t c ∙ ap gives e),
     )
 
     module _ (x : ℕ) (t : AfterReport) (c : runner .reports (recordOf bytes rs) x t) where
       answered : reportedOf (t .answer) ≡ withoutValue (reported sheet rs x)
       answered = contracts .report-contract (recordOf bytes rs) x t c .0 ∙ ap withoutValue (report-held bytes sheet read rs run x)
 
-      was-added : t .answer ≡ Reported.Accepted → reported sheet rs x ≡ accepted (rs ++ (x ∷ []))
+      was-added : t .answer ≡ Reported.Accepted → reported sheet rs x ≡ gives (rs ++ (x ∷ []))
       unfolding reportedOf
       was-added e =
           let a = was-accepted (reported sheet rs x) (sym (ap reportedOf e) ∙ answered) in
-          a .1 ∙ ap accepted (reported-adds sheet rs x (a .0) (a .1))
+          a .1 ∙ ap gives (reported-adds sheet rs x (a .0) (a .1))
 
       accepts-run : (t .answer ≡ Reported.Accepted) ↔ RepliesOfRun sheet (rs ++ (x ∷ []))
       unfolding reportedOf withoutValue
@@ -202,7 +203,7 @@ module _ {ℓ} (runner : Runner {ℓ}) (contracts : RunnerContracts runner) (byt
   all-added before (y ∷ rs) r b a es q (then-report {es = more} x t c rest) e =
       let same : Call.report x ≡ Call.report y = head-eq-of-cons-eq e in
       let is : y ≡ x = cc in
-      let yes : t .answer ≡ Reported.Accepted = accepts-run before (b .1) x t (on-record before r b x t c) .1 (accepted-run sheet before x (ap (λ (z : ℕ). reported sheet before z) (sym is) ∙ a .0 ∙ ap (λ (z : ℕ). accepted (before ++ (z ∷ []))) is)) in
+      let yes : t .answer ≡ Reported.Accepted = accepts-run before (b .1) x t (on-record before r b x t c) .1 (accepted-run sheet before x (ap (λ (z : ℕ). reported sheet before z) (sym is) ∙ a .0 ∙ ap (λ (z : ℕ). gives (before ++ (z ∷ []))) is)) in
       let w = all-added (before ++ (x ∷ [])) rs (t .kept) (added-belongs before r b x t c yes) (subst (λ (z : ℕ). AcceptedBehind sheet (before ++ (z ∷ [])) rs) is (a .1)) more q rest (tail-eq-of-cons-eq e) in (
         replied x (t .answer) ∷ w .0,
         w .1,

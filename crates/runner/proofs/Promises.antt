@@ -8,22 +8,30 @@ use denote.Ref.{now}
 use denote.Triple.Entry.{Args}
 use denote.Triple.Clauses.{Lasts, atExit}
 use Rattle.format.specs.Syntax.{Sheet}
-use Rattle.format.specs.Format.{accepted, reading}
+use Rattle.format.specs.Format.{Answer, gives, reading}
 use Rattle.reader.specs.Answers.{withoutValue}
-use Rattle.runner.specs.declared.kept.Record.{Record}
-use Rattle.runner.specs.declared.kept.AfterLoad.{AfterLoad}
-use Rattle.runner.specs.declared.kept.AfterNext.{AfterNext}
-use Rattle.runner.specs.declared.kept.AfterReport.{AfterReport}
-use Rattle.runner.specs.Records.{loaded, recordAfter}
+use Rattle.routine.specs.Memory.{Sized}
+use Rattle.routine.specs.Tables.{prepared, sheetHeads, nodeCells, setWords}
+use Rattle.runner.specs.declared.calls.Record.{Record}
+use Rattle.runner.specs.declared.calls.AfterLoad.{AfterLoad}
+use Rattle.runner.specs.declared.calls.AfterNext.{AfterNext}
+use Rattle.runner.specs.declared.calls.AfterReport.{AfterReport}
+use Rattle.runner.specs.Records.{loaded, sheetIn, nextOn, reportOn, recordAfter}
 use Rattle.runner.specs.Calls.{Event, acceptedIn, Runner, Calls, ListsRun, AfterCalls}
 use Rattle.runner.proofs.GivenLaws.{next-given, report-given}
 use Rattle.runner.proofs.ListLaws.{RunnerContracts, Going, lists-run, after-lists}
-use Rattle.runner.proofs.kept.Record.load as load
-use Rattle.runner.proofs.kept.Record.load.Reads as load-reads
-use Rattle.runner.proofs.kept.Record.next as next
-use Rattle.runner.proofs.kept.Record.next.Reads as next-reads
-use Rattle.runner.proofs.kept.Record.report as report
-use Rattle.runner.proofs.kept.Record.report.Reads as report-reads
+use Rattle.runner.proofs.calls.Record.load as load
+use Rattle.runner.proofs.calls.Record.load.Reads as load-reads
+use Rattle.runner.proofs.calls.Record.load_in as load-in
+use Rattle.runner.proofs.calls.Record.load_in.Reads as load-in-reads
+use Rattle.runner.proofs.calls.Record.next as next
+use Rattle.runner.proofs.calls.Record.next.Reads as next-reads
+use Rattle.runner.proofs.calls.Record.next_in as next-in
+use Rattle.runner.proofs.calls.Record.next_in.Reads as next-in-reads
+use Rattle.runner.proofs.calls.Record.report as report
+use Rattle.runner.proofs.calls.Record.report.Reads as report-reads
+use Rattle.runner.proofs.calls.Record.report_in as report-in
+use Rattle.runner.proofs.calls.Record.report_in.Reads as report-in-reads
 
 -- `Record::load` of a lent sheet; `next` and `report` on a record.
 abbrev LoadMay : (bytes : List ℕ) → AfterLoad → Type 0
@@ -59,6 +67,55 @@ going = record {
 pub lists-run-promised : ListsRun promised-runner
 lists-run-promised = lists-run promised-runner (λ (r : Record). Unit {0}) going
 
-pub lists-promised : (bytes : List ℕ) (sheet : Sheet) → reading bytes ≡ accepted sheet → (l : AfterLoad) → promised-runner .loads bytes l → (es : List Event) (q : Record)
+pub lists-promised : (bytes : List ℕ) (sheet : Sheet) → reading bytes ≡ gives sheet → (l : AfterLoad) → promised-runner .loads bytes l → (es : List Event) (q : Record)
     → Calls promised-runner (l .kept) es q → AfterCalls promised-runner sheet (acceptedIn es) q
 lists-promised = after-lists promised-runner runner-contracts
+
+-- The same with lent tables: behind the call they hold what `prepare` writes for the sheet.
+pub record Lent (sheet : Answer Sheet) (heads nodes sets heads′ nodes′ sets′ : List ℕ) : Type 0 where
+  pub heads-hold : heads′ ≡ prepared sheetHeads sheet heads
+  pub nodes-hold : nodes′ ≡ prepared nodeCells sheet nodes
+  pub sets-hold : sets′ ≡ prepared setWords sheet sets
+
+module _ (κs : Lfts 4) (a : Args load-in.signature κs) (ws : Lasts load-in.ended κs a) (l : AfterLoad) (learnt : load-in-reads.Learnt κs a l (atExit load-in.ended κs a ws)) where
+  pub load-lent : Lent (reading (now (a .0))) (now (a .1 .0)) (now (a .1 .1 .0)) (now (a .1 .1 .1 .0))
+      (now (atExit load-in.ended κs a ws .1 .0)) (now (atExit load-in.ended κs a ws .1 .1 .0)) (now (atExit load-in.ended κs a ws .1 .1 .1 .0))
+  load-lent = record { heads-hold = learnt .2; nodes-hold = learnt .3; sets-hold = learnt .4 }
+
+module _ (κs : Lfts 3) (a : Args next-in.signature κs) (ws : Lasts next-in.ended κs a) (t : AfterNext) (learnt : next-in-reads.Learnt κs a t (atExit next-in.ended κs a ws)) where
+  pub next-lent : Lent (sheetIn (a .0)) (now (a .1 .0)) (now (a .1 .1 .0)) (now (a .1 .1 .1 .0))
+      (now (atExit next-in.ended κs a ws .1 .0)) (now (atExit next-in.ended κs a ws .1 .1 .0)) (now (atExit next-in.ended κs a ws .1 .1 .1 .0))
+  next-lent = record { heads-hold = learnt .2; nodes-hold = learnt .3; sets-hold = learnt .4 }
+
+module _ (κs : Lfts 3) (a : Args report-in.signature κs) (ws : Lasts report-in.ended κs a) (t : AfterReport) (learnt : report-in-reads.Learnt κs a t (atExit report-in.ended κs a ws)) where
+  pub report-lent : Lent (sheetIn (a .0)) (now (a .1 .1 .0)) (now (a .1 .1 .1 .0)) (now (a .1 .1 .1 .1 .0))
+      (now (atExit report-in.ended κs a ws .1 .1 .0)) (now (atExit report-in.ended κs a ws .1 .1 .1 .0)) (now (atExit report-in.ended κs a ws .1 .1 .1 .1 .0))
+  report-lent = record { heads-hold = learnt .1; nodes-hold = learnt .2; sets-hold = learnt .3 }
+
+-- What lent forms may give back is what the others may, so that the claim about lists of calls is theirs too.
+abbrev LoadInMay : (bytes : List ℕ) → AfterLoad → Type 0
+LoadInMay bytes l = (κs : Lfts 4) × (a : Args load-in.signature κs) × (ws : Lasts load-in.ended κs a) × (now (a .0) ≡ bytes) × load-in-reads.Learnt κs a l (atExit load-in.ended κs a ws)
+
+abbrev NextInMay : Record → AfterNext → Type 0
+NextInMay r t =
+    (κs : Lfts 3) × (a : Args next-in.signature κs) × (ws : Lasts next-in.ended κs a) × (a .0 ≡ r) × Sized (now (a .1 .0)) (now (a .1 .1 .0)) (now (a .1 .1 .1 .0))
+    × next-in-reads.Learnt κs a t (atExit next-in.ended κs a ws)
+
+abbrev ReportInMay : Record → (reply : ℕ) → AfterReport → Type 0
+ReportInMay r x t =
+    (κs : Lfts 3) × (a : Args report-in.signature κs) × (ws : Lasts report-in.ended κs a) × (a .0 ≡ r) × (a .1 .0 ≡ x) × Sized (now (a .1 .1 .0)) (now (a .1 .1 .1 .0)) (now (a .1 .1 .1 .1 .0))
+    × report-in-reads.Learnt κs a t (atExit report-in.ended κs a ws)
+
+abbrev pub lent-runner : Runner {0}
+lent-runner = record { loads = LoadInMay; tells = NextInMay; reports = ReportInMay }
+
+pub lent-contracts : RunnerContracts lent-runner
+lent-contracts = record {
+  load-contract = λ bytes l c. (c .4 .0 ∙ ap (λ (b : List ℕ). withoutValue (reading b)) (c .3), c .4 .1 ∙ ap loaded (c .3));
+  next-contract = λ r t c. (c .5 .0 (c .4) ∙ ap nextOn (c .3), c .5 .1 ∙ c .3);
+  report-contract = λ r x t c. (c .6 .0 (c .5) .0 ∙ (λ i. withoutValue (reportOn (c .3 i) (c .4 i))), c .6 .0 (c .5) .1 ∙ (λ i. recordAfter (c .3 i) (c .4 i)));
+}
+
+pub lists-lent : (bytes : List ℕ) (sheet : Sheet) → reading bytes ≡ gives sheet → (l : AfterLoad) → lent-runner .loads bytes l → (es : List Event) (q : Record)
+    → Calls lent-runner (l .kept) es q → AfterCalls lent-runner sheet (acceptedIn es) q
+lists-lent = after-lists lent-runner lent-contracts

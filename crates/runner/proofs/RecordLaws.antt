@@ -2,21 +2,22 @@
 use Prim.Native.Nat.{ℕ, suc, _+_, _-_, _≤_, _<_}
 use native.Mathlib.Numerals.{add-one}
 use native.Mathlib.Omega.{arith}
-use mathlib.Core.List.{List, _∷_, _++_, append-assoc}
-use mathlib.Core.Bool.{Bool, true, false, _&&_}
-use mathlib.Core.Path.{_≡_, refl, ap, _∙_}
+use mathlib.Core.List.{List, [], _∷_, _++_, append-assoc}
+use mathlib.Core.Bool.{true, false}
+use mathlib.Core.Path.{_≡_, ap}
 use lib.ListN.{length, replicate, take, drop, set, getD, length-drop, drop-of-length-le}
 use lib.Seq.{drop-cons, take-suc, take-all, take-length, set-at, length-take-le}
-use borrow.Author.Tests.{eq-eqb, ne-eqb, le-leb, lt-leb}
+use borrow.Author.Tests.{eq-eqb, ne-eqb, le-leb, lt-leb, leb-true}
+use lib.Dec.{leb}
+use Rattle.lists.proofs.ListLaws.{both-true}
 use Rattle.format.specs.Syntax.{Sheet}
-use Rattle.format.specs.Format.{Answer, accepted, refused, reading}
+use Rattle.format.specs.Format.{Answer, gives, refused, reading}
 use Rattle.reader.specs.declared.refusal.Refusal.{Refusal}
 use Rattle.reader.specs.declared.sheet.Acceptance.{Acceptance}
 use Rattle.reader.specs.Answers.{numberOf, answerOf, withoutValue}
 use Rattle.reader.proofs.AnswerLaws.{was-accepted, was-refused}
 use Rattle.format.proofs.SheetLaws.{accepted-length}
-use Rattle.runner.specs.Records.{padded, areZero, zeros, loadedFor, loaded, isPadded}
-use Rattle.runner.specs.declared.kept.Record.{Record}
+use Rattle.runner.specs.Records.{padded, areZero, recordOf, zeros, recordFor, loaded, isPadded}
 
 module _ (bytes : List ℕ) (i : ℕ) where
   -- Behind the end there are only zeros.
@@ -57,59 +58,47 @@ pad-end n bytes i e = rw (e, take-length bytes)
 pub part-rest : (n k : ℕ) (l : List ℕ) → length l ≡ n → take (n - k) (drop k l) ≡ drop k l
 part-rest n k l e = take-all (n - k) (drop k l) (simp length-drop (omega arith))
 
--- A conjunction with a test that fails.
-and-false : (a : Bool) → a && false ≡ false
-and-false true = refl
-and-false false = refl
-
-module _ (r : Record) where
-  -- A sheet longer than its array.
-  pub long-sheet : 1024 < r .len → isPadded r ≡ false
+-- A length that doesn't fit; one that fits: the bytes past it decide.
+module _ (most : ℕ) (bytes : List ℕ) (n : ℕ) where
+  pub too-long : most < n → isPadded most bytes n ≡ false
   unfolding isPadded
-  long-sheet h = simp (lt-leb _ _ h)
+  too-long h = simp (lt-leb _ _ h)
 
-  -- More replies than their array holds.
-  pub long-replies : 64 < r .count → isPadded r ≡ false
+  pub rest-decides : n ≤ most → isPadded most bytes n ≡ areZero (drop n bytes)
   unfolding isPadded
-  long-replies h = simp (lt-leb _ _ h, and-false)
+  rest-decides h = simp (le-leb _ _ h)
 
-  -- A byte past the sheet that isn't 0.
-  pub sheet-unpadded : areZero (drop (r .len) (r .sheet)) ≡ false → isPadded r ≡ false
+  -- What the test tells.
+  pub padded-within : isPadded most bytes n ≡ true → n ≤ most
   unfolding isPadded
-  sheet-unpadded h = simp (h, and-false)
+  padded-within h = leb-true n most (both-true (leb n most) (areZero (drop n bytes)) h .0)
 
-  -- The first three tests pass: the fourth decides.
-  pub replies-decide : r .len ≤ 1024 → r .count ≤ 64 → areZero (drop (r .len) (r .sheet)) ≡ true → isPadded r ≡ areZero (drop (r .count) (r .replies))
+  pub padded-rest : isPadded most bytes n ≡ true → areZero (drop n bytes) ≡ true
   unfolding isPadded
-  replies-decide a b z = simp (le-leb _ _ a, le-leb _ _ b, z)
-
--- The record of each answer.
-for-accepted : (bytes : List ℕ) (sheet : Sheet) → loadedFor bytes (accepted sheet) ≡ record { sheet = padded 1024 bytes; len = length bytes; replies = replicate 64 0; count = 0 }
-unfolding loadedFor
-for-accepted bytes sheet = refl
-
-for-refused : (bytes : List ℕ) (k : ℕ) → loadedFor bytes (refused k) ≡ zeros
-unfolding loadedFor
-for-refused bytes k = refl
+  padded-rest h = both-true (leb n most) (areZero (drop n bytes)) h .1
 
 module _ (bytes : List ℕ) where
   -- The record that is loaded is that of the bytes' reading.
-  loaded-for : (x : Answer Sheet) → reading bytes ≡ x → loaded bytes ≡ loadedFor bytes x
+  loaded-for : (x : Answer Sheet) → reading bytes ≡ x → loaded bytes ≡ recordFor zeros (λ sheet. recordOf bytes []) x
   unfolding loaded
-  loaded-for x e = ap (λ (y : Answer Sheet). loadedFor bytes y) e
+  loaded-for x e = ap (recordFor zeros (λ (sheet : Sheet). recordOf bytes [])) e
 
   -- Accepted bytes fit into the record.
   pub accepted-fits : answerOf Acceptance.Accepted ≡ withoutValue (reading bytes) → length bytes ≤ 1024
   unfolding answerOf
   accepted-fits e = let a = was-accepted (reading bytes) e in accepted-length bytes (a .0) (a .1)
 
+  pub loaded-record : (sheet : Sheet) → reading bytes ≡ gives sheet → loaded bytes ≡ recordOf bytes []
+  unfolding recordFor
+  loaded-record sheet read = loaded-for (gives sheet) read
+
   -- Of accepted bytes the record is they and zeros behind them, with no replies.
   pub loaded-accepted : answerOf Acceptance.Accepted ≡ withoutValue (reading bytes)
       → loaded bytes ≡ record { sheet = padded 1024 bytes; len = length bytes; replies = replicate 64 0; count = 0 }
-  unfolding answerOf
-  loaded-accepted e = let a = was-accepted (reading bytes) e in loaded-for (accepted (a .0)) (a .1) ∙ for-accepted bytes (a .0)
+  unfolding answerOf recordOf
+  loaded-accepted e = let a = was-accepted (reading bytes) e in loaded-record (a .0) (a .1)
 
   -- Of refused bytes the record is that of zeros.
   pub loaded-refused : (r : Refusal) → answerOf (Acceptance.Refused r) ≡ withoutValue (reading bytes) → loaded bytes ≡ zeros
-  unfolding answerOf
-  loaded-refused r e = loaded-for (refused (numberOf r)) (was-refused (reading bytes) (numberOf r) e) ∙ for-refused bytes (numberOf r)
+  unfolding answerOf recordFor
+  loaded-refused r e = loaded-for (refused (numberOf r)) (was-refused (reading bytes) (numberOf r) e)

@@ -5,8 +5,8 @@ use lib.ListN.{length, length-map}
 use mir.Val.{Val}
 use denote.Laws.{Is}
 use denote.Struct.Declared.{row}
-use Rattle.runner.specs.declared.kept.Record.{Record}
-use Rattle.runner.proofs.kept.Record.{the-type}
+use Rattle.runner.specs.declared.calls.Record.{Record}
+use Rattle.runner.proofs.calls.Record.{the-type}
 
 module _ (r : Record) (vs : List Val) (good : Is (row the-type) r vs) where
   -- The sheet's array.

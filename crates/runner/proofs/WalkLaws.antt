@@ -3,39 +3,40 @@ use Prim.Native.Nat.{ℕ, _+_, _<_}
 use mathlib.Core.Path.{_≡_, refl, sym, ap, subst, _∙_}
 use mathlib.Core.Logic.{_⊎_, inl, inr, ⊎-elim}
 use mathlib.Core.List.{List, [], _∷_, _++_, map-append, append-nil, append-assoc, head-eq-of-cons-eq}
-use mathlib.Core.Bool.{Bool, true, false}
+use mathlib.Core.Bool.{Bool, true, false, _&&_}
 use native.Mathlib.Omega.{arith}
 use lib.Dec.{ltb}
-use lib.ListN.{length}
+use lib.ListN.{length, take}
 use Rattle.lists.specs.Lists.{if_then_else_, nonempty}
 use Rattle.lists.proofs.ListLaws.{two-cases, not-both}
 use Rattle.states.specs.declared.States.{States}
 use Rattle.states.specs.Sets.{members}
 use Rattle.format.specs.Syntax.{replyCount, Sheet, actionOf}
-use Rattle.format.specs.Format.{Answer, accepted, refused, reading}
-use Rattle.reader.specs.declared.refusal.Refusal.{Refusal}
-use Rattle.reader.specs.Answers.{withoutValue}
+use Rattle.format.specs.Format.{Answer, gives, refused, onAccepted, reading}
+use Rattle.reader.specs.Answers.{answerOf, withoutValue}
 use Rattle.semantics.specs.Runs.{Entry, entry, History, extended, replies, holdsAfter, occurs}
 use Rattle.semantics.specs.Routine.{Policy, done, perform, routine, Follows, Following}
 use Rattle.semantics.specs.Replies.{leftAfter, historyOf, toldBy, told, stillPossible, reportedTo, reported, RepliesOfRun, areOfRun}
 use Rattle.semantics.proofs.RunLaws.{occurs-run, run-occurs, occurs-before}
-use Rattle.semantics.proofs.ReplyLaws.{follows-history, follows-before, left-next, split-replies, still-occurs, of-run, run-of}
+use Rattle.semantics.proofs.ReplyLaws.{follows-history, follows-before, left-next, split-replies, still-occurs, of-run, run-of, told-left}
 use Rattle.semantics.proofs.AcceptedLaws.{starts}
 use Rattle.routine.specs.declared.memory.Head.{Head}
-use Rattle.routine.specs.declared.sheet.Prepared.{Prepared}
-use Rattle.routine.specs.Memory.{headAt}
-use Rattle.routine.specs.Tables.{preparedOf, startOf, prepared, sheetHeads, nodeCells, setWords, sheetStart}
-use Rattle.routine.proofs.TableLaws.{Tabled, prepared-tabled, ready-sheet, refused-sheet}
+use Rattle.routine.specs.Memory.{Sized, headAt}
+use Rattle.routine.specs.Tables.{startOf, prepared, sheetHeads, nodeCells, setWords, sheetStart}
+use Rattle.routine.proofs.TableLaws.{Tabled, prepared-tabled}
 use Rattle.progression.specs.declared.place.Place.{Place}
-use Rattle.progression.specs.Machine.{settled, stepped}
+use Rattle.progression.specs.Machine.{settled, effect, stepped}
 use Rattle.progression.proofs.RoutineLaws.{Reached, AtAction, AtEnd, start-reached, reached-place, reached-occurs}
 use Rattle.runner.specs.declared.answer.Rejection.{Rejection}
 use Rattle.runner.specs.declared.answer.Told.{Told}
 use Rattle.runner.specs.declared.answer.Reported.{Reported}
-use Rattle.runner.specs.declared.walk.Stand.{Stand}
-use Rattle.runner.specs.Records.{resumed, nextOf, reportOf}
+use Rattle.runner.specs.declared.walk.Walked.{Walked}
+use Rattle.runner.specs.declared.walk.Judged.{Judged}
+use Rattle.runner.specs.declared.calls.Record.{Record}
+use Rattle.runner.specs.Records.{heldSheet, heldReplies, badRecord, isPadded, sheetIn, areReplies, heldBy, nextOn, reportOn}
 use Rattle.runner.specs.Answers.{toldOf, reportedOf}
-use Rattle.runner.specs.Walks.{standAt, goesOn, standsFrom, judged}
+use Rattle.runner.specs.Walks.{walkedOf, goesOn, standsFrom, standsBy, walked, stands, judged, judgedAt, toldAt, acceptedAt, reportOf}
+use Rattle.runner.proofs.CallLaws.{sheet-padded, sheet-not, held-is, held-refused}
 use Rattle.runner.proofs.StandLaws.{none-left, one-left, end-stops, none-possible, some-possible, answered, judged-by}
 
 module _ (sheet : Sheet) where
@@ -69,9 +70,7 @@ module _ (sheet : Sheet) where
 
   -- What is told and reported, by what is left after the replies.
   told-by : (h : History) → Follows (routine sheet) h → (all : List ℕ) → replies h ≡ all → (p : Policy) → left (replies h) ≡ p → told sheet all ≡ toldBy sheet p h
-  unfolding told
-  told-by h f all e p l =
-      ap (told sheet) (sym e) ∙ ap (λ (g : History). toldBy sheet (left (replies h)) g) (follows-history (routine sheet) h f) ∙ ap (λ (q : Policy). toldBy sheet q h) l
+  told-by h f all e p l = ap (told sheet) (sym e) ∙ told-left sheet h f p l
 
   reported-by : (h : History) → Follows (routine sheet) h → (all : List ℕ) → replies h ≡ all → (p : Policy) → left (replies h) ≡ p → (r : ℕ) → reported sheet all r ≡ reportedTo sheet p h all r
   unfolding reported
@@ -81,19 +80,20 @@ module _ (sheet : Sheet) where
 
   module _ (heads nodes sets : List ℕ) where
     -- Where the replies lead, and what they are by definition: not those of a run; those of a run at its end; or those of a run before an action.
-    pub record NoRun (stand : Stand) (all : List ℕ) : Type 0 where
-      pub stands : stand ≡ Stand.Nowhere
+    pub record NoRun (stand : Walked) (all : List ℕ) : Type 0 where
+      pub stands : stand ≡ Walked.Nowhere
       pub no-run : areOfRun sheet all ≡ false
 
-    pub record Ended (stand : Stand) (all : List ℕ) : Type 0 where
+    pub record Ended (stand : Walked) (all : List ℕ) : Type 0 where
       pub history : History
       pub replied : replies history ≡ all
       pub follows : Follows (routine sheet) history
       pub occurred : occurs sheet history ≡ true
-      pub stands : stand ≡ Stand.End (holdsAfter sheet history (sheet .goal))
+      pub set : States
+      pub stands : stand ≡ Walked.At (Place.End (holdsAfter sheet history (sheet .goal))) set
       pub nothing : left (replies history) ≡ done
 
-    pub record Acting (stand : Stand) (all : List ℕ) : Type 0 where
+    pub record Acting (stand : Walked) (all : List ℕ) : Type 0 where
       pub history : History
       pub replied : replies history ≡ all
       pub follows : Follows (routine sheet) history
@@ -101,16 +101,15 @@ module _ (sheet : Sheet) where
       pub node : ℕ
       pub set : States
       pub acts : AtAction sheet heads nodes sets history node set
-      pub stands : stand ≡ Stand.Act (acts .action) set
+      pub stands : stand ≡ Walked.At (Place.Act (acts .place) (acts .action)) set
 
-    abbrev pub Led : (stand : Stand) (all : List ℕ) → Type 0
+    abbrev pub Led : (stand : Walked) (all : List ℕ) → Type 0
     Led stand all = NoRun stand all ⊎ (Ended stand all ⊎ Acting stand all)
 
-    module _ (bytes : List ℕ) (read : reading bytes ≡ accepted sheet) (tabled : Tabled sheet heads nodes sets) where
+    module _ (bytes : List ℕ) (read : reading bytes ≡ gives sheet) (tabled : Tabled sheet heads nodes sets) where
       -- No reply is left.
       none-more : (h : History) (at : ℕ) (set : States) → Reached sheet heads nodes sets h at set → occurs sheet h ≡ true
           → AtAction sheet heads nodes sets h at set ⊎ AtEnd sheet heads nodes sets h at set → Led (standsFrom heads nodes sets set at []) (replies h ++ [])
-      unfolding standAt
       none-more h at set reached o (inl x) = inr (inr (record {
         history = h;
         replied = sym (append-nil (replies h));
@@ -119,23 +118,24 @@ module _ (sheet : Sheet) where
         node = at;
         set = set;
         acts = x;
-        stands = none-left heads nodes sets set at ∙ ap (λ (p : Place). standAt p set) (x .settles);
+        stands = none-left heads nodes sets set at ∙ ap (λ (p : Place). Walked.At p set) (x .settles);
       }))
       none-more h at set reached o (inr x) = inr (inl (record {
         history = h;
         replied = sym (append-nil (replies h));
         follows = reached .follows;
         occurred = o;
-        stands = none-left heads nodes sets set at ∙ ap (λ (p : Place). standAt p set) (x .settles);
+        set = set;
+        stands = none-left heads nodes sets set at ∙ ap (λ (p : Place). Walked.At p set) (x .settles);
         nothing = x .nothing;
       }))
 
       -- One reply, and others behind it.
       module _ (h : History) (at : ℕ) (set : States) (reached : Reached sheet heads nodes sets h at set) (r : ℕ) (rs : List ℕ) where
-        abbrev onward : States → (next : ℕ) → Stand
+        abbrev onward : States → (next : ℕ) → Walked
         onward after next = standsFrom heads nodes sets after next rs
 
-        abbrev here : Stand
+        abbrev here : Walked
         here = standsFrom heads nodes sets set at (r ∷ rs)
 
         abbrev all : List ℕ
@@ -190,7 +190,7 @@ module _ (sheet : Sheet) where
           go (inl x) later =
               ⊎-elim (λ (e : nonempty (members (stepped heads sets set (x .action) r)) ≡ true).
               let l = later (extended h (x .action) r) (x .place + 1) (stepped heads sets set (x .action) r) (x .onward r) (reply-occurs h at set reached r rs x ∙ e) in
-              subst (λ (s : Stand). Led s (replies h ++ (r ∷ rs))) (sym (allowed-stands h at set reached r rs x e))
+              subst (λ (s : Walked). Led s (replies h ++ (r ∷ rs))) (sym (allowed-stands h at set reached r rs x e))
               (subst (Led (standsFrom heads nodes sets (stepped heads sets set (x .action) r) (x .place + 1) rs)) (one-more h at set reached r rs x) l))
               (λ e. inl (not-allowed h at set reached r rs x e)) (two-cases (nonempty (members (stepped heads sets set (x .action) r))))
 
@@ -198,78 +198,41 @@ module _ (sheet : Sheet) where
       pub start-led : (rs : List ℕ) → Led (standsFrom heads nodes sets (sheetStart sheet) 0 rs) rs
       start-led rs = led rs [] 0 (sheetStart sheet) (start-reached sheet heads nodes sets bytes read tabled) (starts bytes sheet read)
 
--- What the code tells where replies lead, and what it answers to one reply more.
-abbrev pub toldAt : Stand → Told
-toldAt (Stand.Act a set) = Told.Act a
-toldAt (Stand.End holds) = Told.End holds
-toldAt Stand.Nowhere = Told.BadRecord
-
-abbrev pub reportedAt : (heads sets : List ℕ) → Stand → (reply : ℕ) → Reported
-reportedAt heads sets (Stand.Act a set) reply = judged heads sets set a reply
-reportedAt heads sets (Stand.End holds) reply = Reported.Refused Rejection.AtEnd
-reportedAt heads sets Stand.Nowhere reply = Reported.Refused Rejection.BadRecord
-
 module _ (sheet : Sheet) (rs : List ℕ) where
-  -- A sheet is resumed after the replies of a run.
-  resumed-by : (b : Bool) → areOfRun sheet rs ≡ b → resumed (accepted sheet) rs ≡ (if b then accepted sheet else refused 31)
-  unfolding resumed
-  resumed-by b e = ap (λ (x : Bool). if x then accepted sheet else refused 31) e
-
-  none-resumed : areOfRun sheet rs ≡ false → resumed (accepted sheet) rs ≡ refused 31
-  unfolding if_then_else_
-  none-resumed e = resumed-by false e
-
-  is-resumed : areOfRun sheet rs ≡ true → resumed (accepted sheet) rs ≡ accepted sheet
-  unfolding if_then_else_
-  is-resumed e = resumed-by true e
-
-  -- "Next" and "Report" on it.
-  not-next : areOfRun sheet rs ≡ false → nextOf (resumed (accepted sheet) rs) rs ≡ refused 31
-  unfolding nextOf
-  not-next e = ap (λ (a : Answer Sheet). nextOf a rs) (none-resumed e)
-
-  is-next : areOfRun sheet rs ≡ true → nextOf (resumed (accepted sheet) rs) rs ≡ accepted (told sheet rs)
-  unfolding nextOf
-  is-next e = ap (λ (a : Answer Sheet). nextOf a rs) (is-resumed e)
-
-  not-reported : (r : ℕ) → areOfRun sheet rs ≡ false → reportOf (resumed (accepted sheet) rs) rs r ≡ refused 31
-  unfolding reportOf
-  not-reported r e = ap (λ (a : Answer Sheet). reportOf a rs r) (none-resumed e)
-
-  is-reported : (r : ℕ) → areOfRun sheet rs ≡ true → reportOf (resumed (accepted sheet) rs) rs r ≡ reported sheet rs r
-  unfolding reportOf
-  is-reported r e = ap (λ (a : Answer Sheet). reportOf a rs r) (is-resumed e)
-
   -- A report at the end, and at an action by whether the action has the reply and whether it is still possible.
   end-reported : (h : History) (r : ℕ) → reportedTo sheet done h rs r ≡ refused 32
   unfolding reportedTo
   end-reported h r = refl
 
   act-reported : (a : ℕ) (after : ℕ → Policy) (h : History) (r : ℕ) (has some : Bool) → ltb r (replyCount (actionOf sheet a)) ≡ has → stillPossible sheet h (entry a r) ≡ some
-      → reportedTo sheet (perform a after) h rs r ≡ (if has then (if some then accepted (rs ++ (r ∷ [])) else refused 34) else refused 33)
+      → reportedTo sheet (perform a after) h rs r ≡ (if has then (if some then gives (rs ++ (r ∷ [])) else refused 34) else refused 33)
   unfolding reportedTo
-  act-reported a after h r has some e f = λ i. if e i then (if f i then accepted (rs ++ (r ∷ [])) else refused 34) else refused 33
+  act-reported a after h r has some e f = λ i. if e i then (if f i then gives (rs ++ (r ∷ [])) else refused 34) else refused 33
 
 -- The answer's number is that of the report.
-same-answer : (has some : Bool) (xs : List ℕ) → reportedOf (answered has some) ≡ withoutValue (if has then (if some then accepted xs else refused 34) else refused 33)
-unfolding reportedOf withoutValue if_then_else_
-same-answer true true xs = refl
-same-answer true false xs = refl
-same-answer false some xs = refl
+same-answer : (has some : Bool) (kept : States) (xs : List ℕ) → reportedOf (reportOf (answered has some kept)) ≡ withoutValue (if has then (if some then gives xs else refused 34) else refused 33)
+unfolding reportedOf reportOf withoutValue if_then_else_
+same-answer true true kept xs = refl
+same-answer true false kept xs = refl
+same-answer false some kept xs = refl
 
-module _ (bytes : List ℕ) (sheet : Sheet) (read : reading bytes ≡ accepted sheet) (heads nodes sets : List ℕ) (tabled : Tabled sheet heads nodes sets) (rs : List ℕ) where
+-- What is told and answered where replies lead that are, or aren't, those of a run: what "Next" tells of them and "Report" answers, or 31.
+abbrev byRun : {A : Type 0} → Bool → Answer A → Answer A
+byRun b a = if b then a else badRecord
+
+module _ (bytes : List ℕ) (sheet : Sheet) (read : reading bytes ≡ gives sheet) (heads nodes sets : List ℕ) (tabled : Tabled sheet heads nodes sets) (rs : List ℕ) where
   -- What is told where the replies lead is what "Next" tells.
-  led-told : (stand : Stand) → Led sheet heads nodes sets stand rs → toldOf (toldAt stand) ≡ nextOf (resumed (accepted sheet) rs) rs
-  unfolding toldOf toldBy
-  led-told stand (inl x) = ap (λ (s : Stand). toldOf (toldAt s)) (x .stands) ∙ sym (not-next sheet rs (x .no-run))
+  led-told : (stand : Walked) → Led sheet heads nodes sets stand rs → toldOf (toldAt stand) ≡ byRun (areOfRun sheet rs) (gives (told sheet rs))
+  unfolding toldOf toldAt toldBy if_then_else_
+  led-told stand (inl x) = ap (λ (s : Walked). toldOf (toldAt s)) (x .stands) ∙ sym (ap (λ (b : Bool). byRun b (gives (told sheet rs))) (x .no-run))
   led-told stand (inr (inl x)) =
-      ap (λ (s : Stand). toldOf (toldAt s)) (x .stands)
-      ∙ sym (is-next sheet rs (run-replies sheet (x .history) (x .follows) (x .occurred) rs (x .replied))
-      ∙ ap accepted (told-by sheet (x .history) (x .follows) rs (x .replied) done (x .nothing)))
+      ap (λ (s : Walked). toldOf (toldAt s)) (x .stands)
+      ∙ sym (ap (λ (b : Bool). byRun b (gives (told sheet rs))) (run-replies sheet (x .history) (x .follows) (x .occurred) rs (x .replied))
+      ∙ ap gives (told-by sheet (x .history) (x .follows) rs (x .replied) done (x .nothing)))
   led-told stand (inr (inr x)) =
-      ap (λ (s : Stand). toldOf (toldAt s)) (x .stands)
-      ∙ sym (is-next sheet rs (run-replies sheet (x .history) (x .follows) (x .occurred) rs (x .replied))
-      ∙ ap accepted (told-by sheet (x .history) (x .follows) rs (x .replied) (perform (x .acts .action) (x .acts .after)) (x .acts .next)))
+      ap (λ (s : Walked). toldOf (toldAt s)) (x .stands)
+      ∙ sym (ap (λ (b : Bool). byRun b (gives (told sheet rs))) (run-replies sheet (x .history) (x .follows) (x .occurred) rs (x .replied))
+      ∙ ap gives (told-by sheet (x .history) (x .follows) rs (x .replied) (perform (x .acts .action) (x .acts .after)) (x .acts .next)))
 
   -- The tables tell how many replies an action has, and whether a reply to it is still possible.
   count-is : (a : ℕ) → a < length (sheet .actions) → headAt heads a .count ≡ replyCount (actionOf sheet a)
@@ -283,66 +246,198 @@ module _ (bytes : List ℕ) (sheet : Sheet) (read : reading bytes ≡ accepted s
         ∙ reached-occurs sheet heads nodes sets bytes read tabled (extended h (x .action) r) (x .place + 1) (stepped heads sets set (x .action) r) (x .onward r)
 
     act-answered : (h : History) (at : ℕ) (set : States) (x : AtAction sheet heads nodes sets h at set)
-        → reportedOf (judged heads sets set (x .action) r) ≡ withoutValue (reportedTo sheet (perform (x .action) (x .after)) h rs r)
+        → reportedOf (reportOf (judged heads sets (effect sets (headAt heads (x .action)) set) (x .action) r)) ≡ withoutValue (reportedTo sheet (perform (x .action) (x .after)) h rs r)
+    unfolding stepped
     act-answered h at set x =
         let has = ltb r (replyCount (actionOf sheet (x .action))) in
         let some = stillPossible sheet h (entry (x .action) r) in
-        ap reportedOf (judged-by heads sets set (x .action) r has some (ap (ltb r) (count-is (x .action) (x .known-action))) (sym (possible-is h at set x)))
-        ∙ same-answer has some (rs ++ (r ∷ []))
+        ap (λ (j : Judged). reportedOf (reportOf j))
+        (judged-by heads sets (effect sets (headAt heads (x .action)) set) (x .action) r has some (ap (ltb r) (count-is (x .action) (x .known-action))) (sym (possible-is h at set x)))
+        ∙ same-answer has some (stepped heads sets set (x .action) r) (rs ++ (r ∷ []))
         ∙ ap withoutValue (sym (act-reported sheet rs (x .action) (x .after) h r has some refl refl))
 
     -- What is answered to one reply more where the replies lead is what "Report" answers.
-    led-reported : (stand : Stand) → Led sheet heads nodes sets stand rs → reportedOf (reportedAt heads sets stand r) ≡ withoutValue (reportOf (resumed (accepted sheet) rs) rs r)
-    unfolding reportedOf withoutValue
-    led-reported stand (inl x) = ap (λ (s : Stand). reportedOf (reportedAt heads sets s r)) (x .stands) ∙ ap withoutValue (sym (not-reported sheet rs r (x .no-run)))
+    led-reported : (stand : Walked) → Led sheet heads nodes sets stand rs → reportedOf (reportOf (judgedAt heads sets stand r)) ≡ withoutValue (byRun (areOfRun sheet rs) (reported sheet rs r))
+    unfolding reportedOf reportOf judgedAt withoutValue if_then_else_
+    led-reported stand (inl x) = ap (λ (s : Walked). reportedOf (reportOf (judgedAt heads sets s r))) (x .stands) ∙ ap withoutValue (sym (ap (λ (b : Bool). byRun b (reported sheet rs r)) (x .no-run)))
     led-reported stand (inr (inl x)) =
-        ap (λ (s : Stand). reportedOf (reportedAt heads sets s r)) (x .stands)
-        ∙ ap withoutValue (sym (is-reported sheet rs r (run-replies sheet (x .history) (x .follows) (x .occurred) rs (x .replied))
+        ap (λ (s : Walked). reportedOf (reportOf (judgedAt heads sets s r))) (x .stands)
+        ∙ ap withoutValue (sym (ap (λ (b : Bool). byRun b (reported sheet rs r)) (run-replies sheet (x .history) (x .follows) (x .occurred) rs (x .replied))
         ∙ reported-by sheet (x .history) (x .follows) rs (x .replied) done (x .nothing) r ∙ end-reported sheet rs (x .history) r))
     led-reported stand (inr (inr x)) =
-        ap (λ (s : Stand). reportedOf (reportedAt heads sets s r)) (x .stands)
+        ap (λ (s : Walked). reportedOf (reportOf (judgedAt heads sets s r))) (x .stands)
         ∙ act-answered (x .history) (x .node) (x .set) (x .acts)
-        ∙ ap withoutValue (sym (is-reported sheet rs r (run-replies sheet (x .history) (x .follows) (x .occurred) rs (x .replied))
+        ∙ ap withoutValue (sym (ap (λ (b : Bool). byRun b (reported sheet rs r)) (run-replies sheet (x .history) (x .follows) (x .occurred) rs (x .replied))
         ∙ reported-by sheet (x .history) (x .follows) rs (x .replied) (perform (x .acts .action) (x .acts .after)) (x .acts .next) r))
 
--- By what `prepare` answers.
-module _ (bytes rs : List ℕ) where
+-- What is told and answered, by the meaning of where the code stands.
+unfoldable toldIn : Answer Walked → Told
+unfolding toldAt
+toldIn (gives w) = toldAt w
+toldIn (refused k) = Told.BadRecord
+
+unfoldable reportIn : (heads sets : List ℕ) → Answer Walked → (reply : ℕ) → Reported
+unfolding judgedAt reportOf
+reportIn heads sets (gives w) reply = reportOf (judgedAt heads sets w reply)
+reportIn heads sets (refused k) reply = Reported.Refused Rejection.BadRecord
+
+told-in : (w : Walked) → toldAt w ≡ toldIn (walkedOf w)
+unfolding toldAt toldIn walkedOf
+told-in (Walked.At place set) = refl
+told-in Walked.Nowhere = refl
+told-in (Walked.Refused r) = refl
+
+report-in : (heads sets : List ℕ) (w : Walked) (reply : ℕ) → reportOf (judgedAt heads sets w reply) ≡ reportIn heads sets (walkedOf w) reply
+unfolding judgedAt reportOf reportIn walkedOf
+report-in heads sets (Walked.At place set) reply = refl
+report-in heads sets Walked.Nowhere reply = refl
+report-in heads sets (Walked.Refused r) reply = refl
+
+-- What loading answers is what reading does.
+pub accepted-in : (heads nodes sets bytes replies : List ℕ) (count : ℕ) (w : Walked) → walkedOf w ≡ walked heads nodes sets bytes replies count → answerOf (acceptedAt w) ≡ withoutValue (reading bytes)
+unfolding walked onAccepted startOf acceptedAt answerOf walkedOf withoutValue
+accepted-in heads nodes sets bytes replies count w e = by-answer w ∙ ap withoutValue e ∙ go (reading bytes)
+  where
+    by-answer : (v : Walked) → answerOf (acceptedAt v) ≡ withoutValue (walkedOf v)
+    by-answer (Walked.At place set) = refl
+    by-answer Walked.Nowhere = refl
+    by-answer (Walked.Refused r) = refl
+
+    go : (a : Answer Sheet) → withoutValue (onAccepted (λ start. gives (standsBy heads nodes sets replies count start)) (startOf a)) ≡ withoutValue a
+    go (gives sheet) = refl
+    go (refused k) = refl
+
+-- Where a record stands, and what is in a table then, by whether its sheet is padded.
+module _ (r : Record) where
+  module _ (heads nodes sets : List ℕ) where
+    abbrev by-padding : Bool → Answer Walked
+    by-padding b = if b then walked heads nodes sets (heldSheet r) (r .replies) (r .count) else gives Walked.Nowhere
+
+    not-there : isPadded 1024 (r .sheet) (r .len) ≡ false → stands heads nodes sets r ≡ gives Walked.Nowhere
+    unfolding stands if_then_else_
+    not-there e = ap by-padding e
+
+    is-there : isPadded 1024 (r .sheet) (r .len) ≡ true → stands heads nodes sets r ≡ walked heads nodes sets (heldSheet r) (r .replies) (r .count)
+    unfolding stands if_then_else_
+    is-there e = ap by-padding e
+
+    pub stands-not : isPadded 1024 (r .sheet) (r .len) ≡ false → walkedOf Walked.Nowhere ≡ stands heads nodes sets r
+    unfolding walkedOf
+    stands-not e = sym (not-there e)
+
+    pub stands-walked : isPadded 1024 (r .sheet) (r .len) ≡ true → (w : Walked) → walkedOf w ≡ walked heads nodes sets (take (r .len) (r .sheet)) (r .replies) (r .count) → walkedOf w ≡ stands heads nodes sets r
+    unfolding heldSheet
+    stands-walked e w q = q ∙ sym (is-there e)
+
+  pub unprepared : isPadded 1024 (r .sheet) (r .len) ≡ false → (has : Sheet → List ℕ) (memory : List ℕ) → memory ≡ prepared has (sheetIn r) memory
+  unfolding prepared
+  unprepared e has memory = sym (ap (λ (a : Answer Sheet). prepared has a memory) (sheet-not r e))
+
+  pub was-prepared : isPadded 1024 (r .sheet) (r .len) ≡ true → (has : Sheet → List ℕ) (memory after : List ℕ) → after ≡ prepared has (reading (take (r .len) (r .sheet))) memory
+      → after ≡ prepared has (sheetIn r) memory
+  unfolding heldSheet
+  was-prepared e has memory after q = q ∙ sym (ap (λ (a : Answer Sheet). prepared has a memory) (sheet-padded r e))
+
+-- Of a record, by the tables that were prepared for it.
+module _ (r : Record) (heads nodes sets : List ℕ) (sized : Sized heads nodes sets) (heads′ nodes′ sets′ : List ℕ) (h′ : heads′ ≡ prepared sheetHeads (sheetIn r) heads)
+    (n′ : nodes′ ≡ prepared nodeCells (sheetIn r) nodes) (s′ : sets′ ≡ prepared setWords (sheetIn r) sets) where
+  abbrev there : Answer Walked
+  there = stands heads′ nodes′ sets′ r
+
   -- A refused sheet.
-  refused-resumed : (r : Refusal) → preparedOf (Prepared.Refused r) ≡ startOf (reading bytes) → resumed (reading bytes) rs ≡ refused 31
-  unfolding resumed
-  refused-resumed r e = ap (λ (a : Answer Sheet). resumed a rs) (refused-sheet (reading bytes) r e)
+  refused-there : isPadded 1024 (r .sheet) (r .len) ≡ true → (k : ℕ) → reading (heldSheet r) ≡ refused k → there ≡ refused k
+  unfolding walked onAccepted startOf
+  refused-there e k read = is-there r heads′ nodes′ sets′ e ∙ ap (λ (a : Answer Sheet). onAccepted (λ start. gives (standsBy heads′ nodes′ sets′ (r .replies) (r .count) start)) (startOf a)) read
 
-  pub refused-told : (r : Refusal) → preparedOf (Prepared.Refused r) ≡ startOf (reading bytes) → toldOf Told.BadRecord ≡ nextOf (resumed (reading bytes) rs) rs
-  unfolding toldOf nextOf
-  refused-told r e = sym (ap (λ (a : Answer Sheet). nextOf a rs) (refused-resumed r e))
+  -- An accepted one: the replies and their count decide.
+  module _ (e : isPadded 1024 (r .sheet) (r .len) ≡ true) (sheet : Sheet) (read : reading (heldSheet r) ≡ gives sheet) where
+    holds-sheet : sheetIn r ≡ gives sheet
+    holds-sheet = sheet-padded r e ∙ read
 
-  pub refused-reported : (r : Refusal) → preparedOf (Prepared.Refused r) ≡ startOf (reading bytes) → (reply : ℕ)
-      → reportedOf (Reported.Refused Rejection.BadRecord) ≡ withoutValue (reportOf (resumed (reading bytes) rs) rs reply)
-  unfolding reportedOf withoutValue reportOf
-  refused-reported r e reply = sym (ap (λ (a : Answer Sheet). withoutValue (reportOf a rs reply)) (refused-resumed r e))
+    stands-there : there ≡ gives (standsBy heads′ nodes′ sets′ (r .replies) (r .count) (sheetStart sheet))
+    unfolding walked onAccepted startOf
+    stands-there = is-there r heads′ nodes′ sets′ e ∙ ap (λ (a : Answer Sheet). onAccepted (λ start. gives (standsBy heads′ nodes′ sets′ (r .replies) (r .count) start)) (startOf a)) read
 
-  -- An accepted sheet: what the tables that were prepared tell and answer.
-  module _ (start : States) (e : preparedOf (Prepared.Ready start) ≡ startOf (reading bytes)) (heads nodes sets : List ℕ) (h : length heads ≡ 93) (n : length nodes ≡ 8192)
-      (s : length sets ≡ 40960) (heads′ nodes′ sets′ : List ℕ) (h′ : heads′ ≡ prepared sheetHeads (reading bytes) heads) (n′ : nodes′ ≡ prepared nodeCells (reading bytes) nodes)
-      (s′ : sets′ ≡ prepared setWords (reading bytes) sets) (stand : Stand) (stands : stand ≡ standsFrom heads′ nodes′ sets′ start 0 rs) where
-    sheet-of : (sheet : Sheet) × (reading bytes ≡ accepted sheet) × (start ≡ sheetStart sheet)
-    sheet-of = ready-sheet (reading bytes) start e
+    tabled-there : Tabled sheet heads′ nodes′ sets′
+    tabled-there =
+        let t = prepared-tabled (heldSheet r) sheet read heads nodes sets sized in
+        let same : sheetIn r ≡ reading (heldSheet r) = sheet-padded r e in
+        subst (λ (x : List ℕ). Tabled sheet x nodes′ sets′) (sym (h′ ∙ ap (λ (a : Answer Sheet). prepared sheetHeads a heads) same))
+        (subst (λ (x : List ℕ). Tabled sheet (prepared sheetHeads (reading (heldSheet r)) heads) x sets′) (sym (n′ ∙ ap (λ (a : Answer Sheet). prepared nodeCells a nodes) same))
+        (subst (λ (x : List ℕ). Tabled sheet (prepared sheetHeads (reading (heldSheet r)) heads) (prepared nodeCells (reading (heldSheet r)) nodes) x)
+        (sym (s′ ∙ ap (λ (a : Answer Sheet). prepared setWords a sets) same)) t))
 
-    tabled-of : Tabled (sheet-of .0) heads′ nodes′ sets′
-    tabled-of = subst (λ (x : List ℕ). Tabled (sheet-of .0) x nodes′ sets′) (sym h′)
-        (subst (λ (x : List ℕ). Tabled (sheet-of .0) (prepared sheetHeads (reading bytes) heads) x sets′) (sym n′)
-        (subst (λ (x : List ℕ). Tabled (sheet-of .0) (prepared sheetHeads (reading bytes) heads) (prepared nodeCells (reading bytes) nodes) x) (sym s′)
-        (prepared-tabled bytes (sheet-of .0) (sheet-of .1) heads nodes sets h n s)))
+    abbrev followed : Walked
+    followed = standsFrom heads′ nodes′ sets′ (sheetStart sheet) 0 (heldReplies r)
 
-    led-of : Led (sheet-of .0) heads′ nodes′ sets′ stand rs
-    led-of =
-        subst (λ (x : Stand). Led (sheet-of .0) heads′ nodes′ sets′ x rs) (sym (stands ∙ ap (λ (u : States). standsFrom heads′ nodes′ sets′ u 0 rs) (sheet-of .2)))
-        (start-led (sheet-of .0) heads′ nodes′ sets′ bytes (sheet-of .1) tabled-of rs)
+    led-there : Led sheet heads′ nodes′ sets′ followed (heldReplies r)
+    led-there = start-led sheet heads′ nodes′ sets′ (heldSheet r) read tabled-there (heldReplies r)
 
-    pub ready-told : toldOf (toldAt stand) ≡ nextOf (resumed (reading bytes) rs) rs
-    ready-told = led-told bytes (sheet-of .0) (sheet-of .1) heads′ nodes′ sets′ tabled-of rs stand led-of ∙ ap (λ (a : Answer Sheet). nextOf (resumed a rs) rs) (sym (sheet-of .1))
+    -- By whether the count fits and only zeros stand past it.
+    by-count : (b : Bool) → isPadded 64 (r .replies) (r .count) ≡ b
+        → (there ≡ gives (if b then followed else Walked.Nowhere)) × (heldBy r ≡ byRun (b && areOfRun sheet (heldReplies r)) (gives sheet))
+    unfolding standsBy areReplies heldReplies
+    by-count b q = (
+      stands-there ∙ ap (λ (c : Bool). gives (if c then followed else Walked.Nowhere)) q,
+      held-is r sheet (b && areOfRun sheet (heldReplies r)) holds-sheet (ap (λ (c : Bool). c && areOfRun sheet (take (r .count) (r .replies))) q),
+    )
 
-    pub ready-reported : (reply : ℕ) → reportedOf (reportedAt heads′ sets′ stand reply) ≡ withoutValue (reportOf (resumed (reading bytes) rs) rs reply)
-    ready-reported reply =
-        led-reported bytes (sheet-of .0) (sheet-of .1) heads′ nodes′ sets′ tabled-of rs reply stand led-of
-        ∙ ap (λ (a : Answer Sheet). withoutValue (reportOf (resumed a rs) rs reply)) (sym (sheet-of .1))
+    told-there : (b : Bool) → isPadded 64 (r .replies) (r .count) ≡ b → toldOf (toldIn there) ≡ nextOn r
+    unfolding toldOf toldIn nextOn onAccepted if_then_else_
+    told-there true q =
+        ap (λ (a : Answer Walked). toldOf (toldIn a)) (by-count true q .0) ∙ led-told (heldSheet r) sheet read heads′ nodes′ sets′ tabled-there (heldReplies r) followed led-there
+        ∙ sym (ap (onAccepted (λ (s : Sheet). gives (told s (heldReplies r)))) (by-count true q .1) ∙ go (areOfRun sheet (heldReplies r)))
+      where
+        go : (c : Bool) → onAccepted (λ (s : Sheet). gives (told s (heldReplies r))) (byRun c (gives sheet)) ≡ byRun c (gives (told sheet (heldReplies r)))
+        go true = refl
+        go false = refl
+    told-there false q =
+        ap (λ (a : Answer Walked). toldOf (toldIn a)) (by-count false q .0) ∙ sym (ap (onAccepted (λ (s : Sheet). gives (told s (heldReplies r)))) (by-count false q .1))
+
+    report-there : (x : ℕ) (b : Bool) → isPadded 64 (r .replies) (r .count) ≡ b → reportedOf (reportIn heads′ sets′ there x) ≡ withoutValue (reportOn r x)
+    unfolding reportedOf withoutValue reportIn reportOn onAccepted if_then_else_
+    report-there x true q =
+        ap (λ (a : Answer Walked). reportedOf (reportIn heads′ sets′ a x)) (by-count true q .0) ∙ led-reported (heldSheet r) sheet read heads′ nodes′ sets′ tabled-there (heldReplies r) x followed led-there
+        ∙ ap withoutValue (sym (ap (onAccepted (λ (s : Sheet). reported s (heldReplies r) x)) (by-count true q .1) ∙ go (areOfRun sheet (heldReplies r))))
+      where
+        go : (c : Bool) → onAccepted (λ (s : Sheet). reported s (heldReplies r) x) (byRun c (gives sheet)) ≡ byRun c (reported sheet (heldReplies r) x)
+        go true = refl
+        go false = refl
+    report-there x false q =
+        ap (λ (a : Answer Walked). reportedOf (reportIn heads′ sets′ a x)) (by-count false q .0)
+        ∙ ap withoutValue (sym (ap (onAccepted (λ (s : Sheet). reported s (heldReplies r) x)) (by-count false q .1)))
+
+  -- What "Next" tells and "Report" answers of a record with 31.
+  bad-next : heldBy r ≡ badRecord → toldOf Told.BadRecord ≡ nextOn r
+  unfolding toldOf nextOn onAccepted
+  bad-next e = sym (ap (onAccepted (λ (s : Sheet). gives (told s (heldReplies r)))) e)
+
+  bad-report : (x : ℕ) → heldBy r ≡ badRecord → reportedOf (Reported.Refused Rejection.BadRecord) ≡ withoutValue (reportOn r x)
+  unfolding reportedOf reportOn onAccepted withoutValue
+  bad-report x e = sym (ap (λ (a : Answer Sheet). withoutValue (onAccepted (λ (s : Sheet). reported s (heldReplies r) x) a)) e)
+
+  -- In each case.
+  told-record : toldOf (toldIn there) ≡ nextOn r
+  unfolding toldIn
+  told-record = go (isPadded 1024 (r .sheet) (r .len)) refl (reading (heldSheet r)) refl
+    where
+      go : (b : Bool) → isPadded 1024 (r .sheet) (r .len) ≡ b → (a : Answer Sheet) → reading (heldSheet r) ≡ a → toldOf (toldIn there) ≡ nextOn r
+      go false e a read = ap (λ (w : Answer Walked). toldOf (toldIn w)) (not-there r heads′ nodes′ sets′ e) ∙ bad-next (held-refused r _ (sheet-not r e))
+      go true e (refused k) read = ap (λ (w : Answer Walked). toldOf (toldIn w)) (refused-there e k read) ∙ bad-next (held-refused r k (sheet-padded r e ∙ read))
+      go true e (gives sheet) read = told-there e sheet read (isPadded 64 (r .replies) (r .count)) refl
+
+  report-record : (x : ℕ) → reportedOf (reportIn heads′ sets′ there x) ≡ withoutValue (reportOn r x)
+  unfolding reportIn
+  report-record x = go (isPadded 1024 (r .sheet) (r .len)) refl (reading (heldSheet r)) refl
+    where
+      go : (b : Bool) → isPadded 1024 (r .sheet) (r .len) ≡ b → (a : Answer Sheet) → reading (heldSheet r) ≡ a → reportedOf (reportIn heads′ sets′ there x) ≡ withoutValue (reportOn r x)
+      go false e a read = ap (λ (w : Answer Walked). reportedOf (reportIn heads′ sets′ w x)) (not-there r heads′ nodes′ sets′ e) ∙ bad-report x (held-refused r _ (sheet-not r e))
+      go true e (refused k) read = ap (λ (w : Answer Walked). reportedOf (reportIn heads′ sets′ w x)) (refused-there e k read) ∙ bad-report x (held-refused r k (sheet-padded r e ∙ read))
+      go true e (gives sheet) read = report-there e sheet read x (isPadded 64 (r .replies) (r .count)) refl
+
+  pub told-is : (w : Walked) → walkedOf w ≡ there → (t : Told) → t ≡ toldAt w → toldOf t ≡ nextOn r
+  told-is w e t q = ap toldOf (q ∙ told-in w) ∙ ap (λ (a : Answer Walked). toldOf (toldIn a)) e ∙ told-record
+
+  pub report-is : (x : ℕ) (w : Walked) → walkedOf w ≡ there → (j : Judged) → j ≡ judgedAt heads′ sets′ w x → reportedOf (reportOf j) ≡ withoutValue (reportOn r x)
+  report-is x w e j q =
+      ap (λ (k : Judged). reportedOf (reportOf k)) q ∙ ap reportedOf (report-in heads′ sets′ w x) ∙ ap (λ (a : Answer Walked). reportedOf (reportIn heads′ sets′ a x)) e ∙ report-record x

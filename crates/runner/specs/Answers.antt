@@ -1,6 +1,6 @@
 -- What the answers of "Next" and "Report" mean: document 01's numbers and values. (Loading's is the reader's.)
 use Prim.Native.Nat.{ℕ}
-use Rattle.format.specs.Format.{Answer, accepted, refused}
+use Rattle.format.specs.Format.{Answer, gives, refused}
 use Rattle.semantics.specs.Replies.{Told as Meant, to-do, at-end}
 use Rattle.runner.specs.declared.answer.Rejection.{Rejection}
 use Rattle.runner.specs.declared.answer.Told.{Told}
@@ -15,12 +15,13 @@ rejectionNumber Rejection.NotPossible = 34
 
 -- "Next" tells "the action to do, or that the routine is at its end and whether the goal holds", and "gives only 31".
 unfoldable pub toldOf : Told → Answer Meant
-toldOf (Told.Act a) = accepted (to-do a)
-toldOf (Told.End holds) = accepted (at-end holds)
-toldOf Told.BadRecord = refused 31
+unfolding rejectionNumber
+toldOf (Told.Act a) = gives (to-do a)
+toldOf (Told.End holds) = gives (at-end holds)
+toldOf Told.BadRecord = refused (rejectionNumber Rejection.BadRecord)
 
 -- "A reply is accepted if its report isn't refused."
 unfoldable pub reportedOf : Reported → Answer (Unit {0})
 unfolding rejectionNumber
-reportedOf Reported.Accepted = accepted tt
+reportedOf Reported.Accepted = gives tt
 reportedOf (Reported.Refused r) = refused (rejectionNumber r)

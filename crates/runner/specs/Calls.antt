@@ -11,10 +11,10 @@ use Rattle.semantics.specs.Routine.{Following, Full}
 use Rattle.semantics.specs.Replies.{RepliesOfRun}
 use Rattle.runner.specs.declared.answer.Told.{Told}
 use Rattle.runner.specs.declared.answer.Reported.{Reported}
-use Rattle.runner.specs.declared.kept.Record.{Record}
-use Rattle.runner.specs.declared.kept.AfterLoad.{AfterLoad}
-use Rattle.runner.specs.declared.kept.AfterNext.{AfterNext}
-use Rattle.runner.specs.declared.kept.AfterReport.{AfterReport}
+use Rattle.runner.specs.declared.calls.Record.{Record}
+use Rattle.runner.specs.declared.calls.AfterLoad.{AfterLoad}
+use Rattle.runner.specs.declared.calls.AfterNext.{AfterNext}
+use Rattle.runner.specs.declared.calls.AfterReport.{AfterReport}
 
 -- A call: "Next", or "Report" of a reply; and a call with its answer.
 pub data Call : Type 0 where

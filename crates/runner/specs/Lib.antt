@@ -1,4 +1,4 @@
-pub mod Records
 pub mod Answers
+pub mod Records
 pub mod Calls
 pub mod Walks

@@ -7,10 +7,12 @@ use lib.Dec.{leb, eqb}
 use lib.ListN.{length, replicate, take, drop}
 use Rattle.lists.specs.Lists.{if_then_else_, every}
 use Rattle.format.specs.Syntax.{Sheet}
-use Rattle.format.specs.Format.{Answer, accepted, refused, mostBytes, mostActs, reading}
+use Rattle.format.specs.Format.{Answer, gives, refused, onAccepted, mostBytes, mostActs, reading}
 use Rattle.semantics.specs.Replies.{Told, to-do, at-end, told, reported, areOfRun}
 use Rattle.semantics.specs.Cases.{sheet1, sheet2}
-use Rattle.runner.specs.declared.kept.Record.{Record}
+use Rattle.runner.specs.declared.answer.Rejection.{Rejection}
+use Rattle.runner.specs.declared.calls.Record.{Record}
+use Rattle.runner.specs.Answers.{rejectionNumber}
 
 -- "Bytes past the lengths are 0": bytes, and zeros behind them up to a length.
 unfoldable pub padded : (l : ℕ) → List ℕ → List ℕ
@@ -21,22 +23,24 @@ unfolding every
 areZero xs = every (λ b. eqb b 0) xs
 
 -- "The record holds a 1,024-byte sheet, its length, 64 reply bytes and their count": that of a sheet's bytes and some replies.
+-- Loading and an accepted report give such records, and 31 refuses all others (HeldLaws, `held-record`, for arrays of the lengths that their types fix).
 unfoldable pub recordOf : (bytes rs : List ℕ) → Record
 unfolding padded
 recordOf bytes rs = record { sheet = padded mostBytes bytes; len = length bytes; replies = padded mostActs rs; count = length rs }
 
--- "Loading gives a record with no replies." "A refused loading returns a record of zeros."
+-- "A refused loading returns a record of zeros."
 unfoldable pub zeros : Record
 zeros = record { sheet = replicate mostBytes 0; len = 0; replies = replicate mostActs 0; count = 0 }
 
-unfoldable pub loadedFor : (bytes : List ℕ) → Answer Sheet → Record
-unfolding recordOf zeros
-loadedFor bytes (accepted sheet) = recordOf bytes []
-loadedFor bytes (refused r) = zeros
+-- The record that a call returns: that of what is accepted, or after a refusal another.
+unfoldable pub recordFor : {A : Type 0} → (otherwise : Record) → (A → Record) → Answer A → Record
+recordFor otherwise made (gives a) = made a
+recordFor otherwise made (refused k) = otherwise
 
+-- "Loading gives a record with no replies."
 unfoldable pub loaded : (bytes : List ℕ) → Record
-unfolding loadedFor reading
-loaded bytes = loadedFor bytes (reading bytes)
+unfolding recordFor recordOf zeros reading
+loaded bytes = recordFor zeros (λ sheet. recordOf bytes []) (reading bytes)
 
 -- The bytes of a record's sheet, and its replies: those before the lengths.
 unfoldable pub heldSheet : Record → List ℕ
@@ -45,50 +49,50 @@ heldSheet r = take (r .len) (r .sheet)
 unfoldable pub heldReplies : Record → List ℕ
 heldReplies r = take (r .count) (r .replies)
 
--- Else 31: only zeros past the lengths, at most 64 replies, and a length of at most 1,024, above which "the record's sheet would be refused".
-unfoldable pub isPadded : Record → Bool
+-- 31.
+abbrev pub badRecord : {A : Type 0} → Answer A
+badRecord = refused (rejectionNumber Rejection.BadRecord)
+
+-- A length is at most what an array holds, and no "byte past a length isn't 0".
+unfoldable pub isPadded : (most : ℕ) (bytes : List ℕ) (n : ℕ) → Bool
 unfolding areZero
-isPadded r = (leb (r .len) mostBytes && leb (r .count) mostActs) && (areZero (drop (r .len) (r .sheet)) && areZero (drop (r .count) (r .replies)))
+isPadded most bytes n = leb n most && areZero (drop n bytes)
 
--- 31 too if "the record's sheet would be refused", "or the replies aren't those of a run following the routine"; else the sheet.
-unfoldable pub resumed : Answer Sheet → (rs : List ℕ) → Answer Sheet
-unfolding if_then_else_ areOfRun
-resumed (accepted sheet) rs = if areOfRun sheet rs then accepted sheet else refused 31
-resumed (refused r) rs = refused 31
+-- What 31 asks of the sheet and its length: the sheet, unless "the record's sheet would be refused", as one of more than 1,024 bytes is, or a byte past the length isn't 0.
+unfoldable pub sheetIn : Record → Answer Sheet
+unfolding if_then_else_ isPadded reading heldSheet rejectionNumber
+sheetIn r = if isPadded mostBytes (r .sheet) (r .len) then reading (heldSheet r) else badRecord
 
+-- What 31 asks of replies and their count: a byte past the count is 0, "the reply count is above 64" isn't so, and the replies are "those of a run following the routine".
+unfoldable pub areReplies : Sheet → (replies : List ℕ) (count : ℕ) → Bool
+unfolding isPadded areOfRun
+areReplies sheet replies count = isPadded mostActs replies count && areOfRun sheet (take count replies)
+
+-- What is given and passes a test; else 31.
+unfoldable pub passing : {A : Type 0} → (A → Bool) → Answer A → Answer A
+unfolding if_then_else_ rejectionNumber
+passing test (gives a) = if test a then gives a else badRecord
+passing test (refused k) = badRecord
+
+-- The sheet of a record, or 31.
 unfoldable pub heldBy : Record → Answer Sheet
-unfolding if_then_else_ isPadded resumed reading heldSheet heldReplies
-heldBy r = if isPadded r then resumed (reading (heldSheet r)) (heldReplies r) else refused 31
+unfolding passing sheetIn areReplies
+heldBy r = passing (λ sheet. areReplies sheet (r .replies) (r .count)) (sheetIn r)
 
 -- "Next" tells the action to do, or that the routine is at its end and whether the goal holds; it "gives only 31".
-unfoldable pub nextOf : Answer Sheet → (rs : List ℕ) → Answer Told
-unfolding told
-nextOf (accepted sheet) rs = accepted (told sheet rs)
-nextOf (refused r) rs = refused r
-
 unfoldable pub nextOn : Record → Answer Told
-unfolding nextOf heldBy heldReplies
-nextOn r = nextOf (heldBy r) (heldReplies r)
+unfolding onAccepted told heldBy heldReplies
+nextOn r = onAccepted (λ sheet. gives (told sheet (heldReplies r))) (heldBy r)
 
 -- "Report" adds one reply: the replies then. It gives 31, and then 32, 33, 34 "in that order".
-unfoldable pub reportOf : Answer Sheet → (rs : List ℕ) (reply : ℕ) → Answer (List ℕ)
-unfolding reported
-reportOf (accepted sheet) rs reply = reported sheet rs reply
-reportOf (refused r) rs reply = refused r
-
 unfoldable pub reportOn : Record → (reply : ℕ) → Answer (List ℕ)
-unfolding reportOf heldBy heldReplies
-reportOn r reply = reportOf (heldBy r) (heldReplies r) reply
+unfolding onAccepted reported heldBy heldReplies
+reportOn r reply = onAccepted (λ sheet. reported sheet (heldReplies r) reply) (heldBy r)
 
--- The record with other replies; after a refusal "The record comes back unchanged".
-unfoldable pub recordWith : Record → Answer (List ℕ) → Record
-unfolding padded
-recordWith r (accepted rs) = record { sheet = r .sheet; len = r .len; replies = padded mostActs rs; count = length rs }
-recordWith r (refused k) = r
-
+-- The record with the replies then; after a refusal "The record comes back unchanged".
 unfoldable pub recordAfter : Record → (reply : ℕ) → Record
-unfolding recordWith reportOn
-recordAfter r reply = recordWith r (reportOn r reply)
+unfolding recordFor recordOf heldSheet reportOn
+recordAfter r reply = recordFor r (recordOf (heldSheet r)) (reportOn r reply)
 
 -- Examples, evaluated. The sheets of cases 1 and 2 of document 01: one fact, of which nothing is known, and action 0, which asks for it (reply 0: it is true; 1: it is
 -- false) and is the whole routine. In case 1 the goal is that one knows whether the fact is true, in case 2 that one knows that it is. `twice` is case 2 with the action done twice.
@@ -109,21 +113,21 @@ loaded-empty : loaded sheet1 .count ≡ 0
 unfolding loaded
 loaded-empty = refl
 
-first-told : nextOn (loaded sheet1) ≡ accepted (to-do 0)
+first-told : nextOn (loaded sheet1) ≡ gives (to-do 0)
 unfolding nextOn loaded
 first-told = refl
 
 -- Reply 0 is true in one of the two states still possible, and is accepted; with it the routine is at its end, and the goal holds.
-one-state-enough : reportOn (loaded sheet1) 0 ≡ accepted (0 ∷ [])
+one-state-enough : reportOn (loaded sheet1) 0 ≡ gives (0 ∷ [])
 unfolding reportOn loaded
 one-state-enough = refl
 
-goal-told : nextOn (recordAfter (loaded sheet1) 0) ≡ accepted (at-end true)
+goal-told : nextOn (recordAfter (loaded sheet1) 0) ≡ gives (at-end true)
 unfolding nextOn recordAfter loaded
 goal-told = refl
 
 -- Case 2: with reply 1 the goal fails.
-failure-told : nextOn (recordAfter (loaded sheet2) 1) ≡ accepted (at-end false)
+failure-told : nextOn (recordAfter (loaded sheet2) 1) ≡ gives (at-end false)
 unfolding nextOn recordAfter loaded
 failure-told = refl
 

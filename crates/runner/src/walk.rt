@@ -1,10 +1,13 @@
-// Where the replies of a record lead, by the tables of its sheet.
+// Where the replies of a record lead, by the tables of its sheet, which are written into lent memory.
 use crate::answer::Rejection;
-use crate::answer::Reported;
 use crate::answer::Told;
 use progression::Place;
+use progression::effect;
+use progression::keep;
 use progression::settle;
 use progression::step;
+use reader::Acceptance;
+use reader::Refusal;
 use routine::HEAD_CELLS;
 use routine::NODE_CELLS;
 use routine::Prepared;
@@ -13,18 +16,47 @@ use routine::head_at;
 use routine::prepare;
 use states::States;
 ghost use mathlib.Core.Path.{_≡_};
-ghost use Rattle.format.specs.Format.{reading};
-ghost use Rattle.reader.specs.Answers.{withoutValue};
-ghost use Rattle.runner.specs.Records.{resumed, nextOf, reportOf};
-ghost use Rattle.runner.specs.Answers.{toldOf, reportedOf};
-ghost use Rattle.runner.specs.Walks.{standsFrom, judged};
+ghost use lib.ListN.{length};
+ghost use Rattle.format.specs.Format.{gives, mostActs, reading};
+ghost use Rattle.routine.specs.Tables.{prepared as preparedBy, sheetHeads, nodeCells, setWords};
+ghost use Rattle.runner.specs.Records.{areZero, isPadded};
+ghost use Rattle.runner.specs.Walks.{walkedOf, standsFrom, walked as walkedBy, judged, judgedAt, toldAt, acceptedAt};
 
-// At an action, with the states possible before it; at the end, with whether the goal holds; or nowhere, if the replies
-// are not those of a run.
-pub(crate) enum Stand {
-    Act(usize, States),
-    End(bool),
+// The place, with the states possible there; nowhere, if the replies are not those of a run; or the sheet is refused.
+pub(crate) enum Walked {
+    At(Place, States),
     Nowhere,
+    Refused(Refusal),
+}
+
+// A reply is accepted, with the states that it keeps, or refused.
+pub(crate) enum Judged {
+    Kept(States),
+    Refused(Rejection),
+}
+
+// Whether every byte is 0.
+fn all_zero(bytes: &[u8]) -> bool
+    ensures { λ r. ⌜ r ≡ areZero (now (bytes .entry)) ⌝ }
+{
+    let mut i = 0;
+    while i < bytes.len() {
+        if bytes[i] != 0 {
+            return false;
+        }
+        i = i + 1;
+    }
+    true
+}
+
+// Whether n bytes are within an array and only zeros stand past them.
+pub(crate) fn is_padded(bytes: &[u8], n: usize) -> bool
+    ensures { λ r. ⌜ r ≡ isPadded (length (now (bytes .entry))) (now (bytes .entry)) n ⌝ }
+{
+    if bytes.len() < n {
+        return false;
+    }
+    all_zero(&bytes[n..])
 }
 
 // Where replies lead from the first node, the states of a set being possible at the start.
@@ -34,8 +66,8 @@ fn follow(
     sets: &[u64; SET_WORDS],
     start: States,
     replies: &[u8],
-) -> Stand
-    ensures { λ r. ⌜ r ≡ standsFrom (now (heads .entry)) (now (nodes .entry)) (now (sets .entry)) start 0 (now (replies .entry)) ⌝ }
+) -> Walked
+    ensures { λ r. ⌜ walkedOf r ≡ gives (standsFrom (now (heads .entry)) (now (nodes .entry)) (now (sets .entry)) start 0 (now (replies .entry))) ⌝ }
 {
     let mut set = start;
     let mut at = 0;
@@ -44,12 +76,12 @@ fn follow(
         let reply = replies[k];
         match settle(nodes, sets, set, at) {
             Place::End(holds) => {
-                return Stand::Nowhere;
+                return Walked::Nowhere;
             }
             Place::Act(node, action) => {
                 let next = step(heads, sets, set, action, reply as usize);
                 if next.is_empty() {
-                    return Stand::Nowhere;
+                    return Walked::Nowhere;
                 }
                 set = next;
                 at = node + 1;
@@ -57,67 +89,97 @@ fn follow(
             }
         }
     }
-    match settle(nodes, sets, set, at) {
-        Place::End(holds) => Stand::End(holds),
-        Place::Act(node, action) => Stand::Act(action, set),
+    let place = settle(nodes, sets, set, at);
+    Walked::At(place, set)
+}
+
+// Where the first replies of a memory lead by a sheet, and the tables of the sheet.
+pub(crate) fn walk(
+    bytes: &[u8],
+    replies: &[u8],
+    count: usize,
+    heads: &mut [u16; HEAD_CELLS],
+    nodes: &mut [u16; NODE_CELLS],
+    sets: &mut [u64; SET_WORDS],
+) -> Walked
+    requires { ⌜ length (now replies) ≡ mostActs ⌝ }
+    ensures { λ r. ⌜ (walkedOf r ≡ walkedBy (now (heads .exit)) (now (nodes .exit)) (now (sets .exit)) (now (bytes .entry)) (now (replies .entry)) count) × (now (heads .exit) ≡ preparedBy sheetHeads (reading (now (bytes .entry))) (now (heads .entry))) × (now (nodes .exit) ≡ preparedBy nodeCells (reading (now (bytes .entry))) (now (nodes .entry))) × (now (sets .exit) ≡ preparedBy setWords (reading (now (bytes .entry))) (now (sets .entry))) ⌝ }
+{
+    match prepare(bytes, heads, nodes, sets) {
+        Prepared::Refused(r) => Walked::Refused(r),
+        Prepared::Ready(start) => {
+            if !is_padded(replies, count) {
+                return Walked::Nowhere;
+            }
+            follow(heads, nodes, sets, start, &replies[..count])
+        }
     }
 }
 
-// Whether an action has a reply and some possible state allows it.
+// What loading answers.
+pub(crate) fn acceptance(walked: Walked) -> Acceptance
+    ensures { λ r. ⌜ r ≡ acceptedAt walked ⌝ }
+{
+    match walked {
+        Walked::At(place, set) => Acceptance::Accepted,
+        Walked::Nowhere => Acceptance::Accepted,
+        Walked::Refused(r) => Acceptance::Refused(r),
+    }
+}
+
+// What "Next" tells.
+pub(crate) fn tell(walked: Walked) -> Told
+    ensures { λ r. ⌜ r ≡ toldAt walked ⌝ }
+{
+    match walked {
+        Walked::At(place, set) => match place {
+            Place::Act(node, action) => Told::Act(action),
+            Place::End(holds) => Told::End(holds),
+        },
+        Walked::Nowhere => Told::BadRecord,
+        Walked::Refused(r) => Told::BadRecord,
+    }
+}
+
+// Whether an action has a reply, and the states that it keeps of those possible after the effect.
 fn judge(
     heads: &[u16; HEAD_CELLS],
     sets: &[u64; SET_WORDS],
     set: States,
     action: usize,
     reply: usize,
-) -> Reported
+) -> Judged
     ensures { λ r. ⌜ r ≡ judged (now (heads .entry)) (now (sets .entry)) set action reply ⌝ }
 {
     let head = head_at(heads, action);
     if head.count <= reply {
-        return Reported::Refused(Rejection::NoSuchReply);
+        return Judged::Refused(Rejection::NoSuchReply);
     }
-    let next = step(heads, sets, set, action, reply);
-    if next.is_empty() {
-        return Reported::Refused(Rejection::NotPossible);
+    let kept = keep(heads, sets, set, action, reply);
+    if kept.is_empty() {
+        return Judged::Refused(Rejection::NotPossible);
     }
-    Reported::Accepted
+    Judged::Kept(kept)
 }
 
-// What "Next" tells of a sheet and replies.
-pub(crate) fn tell(bytes: &[u8], replies: &[u8]) -> Told
-    ensures { λ r. ⌜ toldOf r ≡ nextOf (resumed (reading (now (bytes .entry))) (now (replies .entry))) (now (replies .entry)) ⌝ }
+// One reply more.
+pub(crate) fn add(
+    heads: &[u16; HEAD_CELLS],
+    sets: &[u64; SET_WORDS],
+    walked: Walked,
+    reply: usize,
+) -> Judged
+    ensures { λ r. ⌜ r ≡ judgedAt (now (heads .entry)) (now (sets .entry)) walked reply ⌝ }
 {
-    let mut heads = [0u16; HEAD_CELLS];
-    let mut nodes = [0u16; NODE_CELLS];
-    let mut sets = [0u64; SET_WORDS];
-    match prepare(bytes, &mut heads, &mut nodes, &mut sets) {
-        Prepared::Refused(r) => Told::BadRecord,
-        Prepared::Ready(start) => {
-            match follow(&heads, &nodes, &sets, start, replies) {
-                Stand::Nowhere => Told::BadRecord,
-                Stand::End(holds) => Told::End(holds),
-                Stand::Act(action, set) => Told::Act(action),
+    match walked {
+        Walked::At(place, set) => match place {
+            Place::Act(node, action) => {
+                let after = effect(heads, sets, set, action);
+                judge(heads, sets, after, action, reply)
             }
-        }
-    }
-}
-
-// Whether a sheet and replies take one reply more.
-pub(crate) fn add(bytes: &[u8], replies: &[u8], reply: u8) -> Reported
-    ensures { λ r. ⌜ reportedOf r ≡ withoutValue (reportOf (resumed (reading (now (bytes .entry))) (now (replies .entry))) (now (replies .entry)) reply) ⌝ }
-{
-    let mut heads = [0u16; HEAD_CELLS];
-    let mut nodes = [0u16; NODE_CELLS];
-    let mut sets = [0u64; SET_WORDS];
-    match prepare(bytes, &mut heads, &mut nodes, &mut sets) {
-        Prepared::Refused(r) => Reported::Refused(Rejection::BadRecord),
-        Prepared::Ready(start) => {
-            match follow(&heads, &nodes, &sets, start, replies) {
-                Stand::Nowhere => Reported::Refused(Rejection::BadRecord),
-                Stand::End(holds) => Reported::Refused(Rejection::AtEnd),
-                Stand::Act(action, set) => judge(&heads, &sets, set, action, reply as usize),
-            }
-        }
+            Place::End(holds) => Judged::Refused(Rejection::AtEnd),
+        },
+        Walked::Nowhere => Judged::Refused(Rejection::BadRecord),
+        Walked::Refused(r) => Judged::Refused(Rejection::BadRecord),
     }
 }

@@ -6,21 +6,20 @@ use mathlib.Core.List.{List, [], _∷_, _++_, map-append, List·Memᴰ, List·Me
 use mathlib.Core.Bool.{Bool, true, false}
 use native.Mathlib.Omega.{arith}
 use lib.ListN.{length, length-map}
-use Rattle.lists.specs.Lists.{exists}
-use Rattle.lists.proofs.ListLaws.{not-both, mem-exists}
+use Rattle.lists.proofs.ListLaws.{not-both}
 use Rattle.format.specs.Syntax.{Program, end, act, branch, replyCount, Sheet, actionOf}
-use Rattle.format.specs.Truth.{isState, states}
-use Rattle.format.specs.Format.{accepted, reading}
-use Rattle.format.proofs.StateLaws.{listed-state, state-listed, state-byte}
+use Rattle.format.specs.Truth.{states}
+use Rattle.format.specs.Format.{gives, reading}
+use Rattle.format.proofs.StateLaws.{listed-state, state-byte}
 use Rattle.format.proofs.FormatLaws.{NumbersBelow}
 use Rattle.format.proofs.SheetLaws.{accepted-shape, accepted-passed, start-state, action-steps, action-mem, few-replies}
-use Rattle.semantics.specs.Runs.{Entry, entry, History, extended, replies, step, Steps, IsRun, lastFrom, lastState, runs, holdsAfter, occurs}
+use Rattle.semantics.specs.Runs.{Entry, entry, History, extended, replies, step, Steps, IsRun, lastState, holdsAfter, occurs}
 use Rattle.semantics.specs.Routine.{Policy, done, perform, policy, routine, Follows, isFull, Following, Full}
-use Rattle.semantics.specs.Verdict.{traceFrom, trace}
-use Rattle.semantics.specs.Replies.{leftAfter, to-do, at-end, told, stillPossible, RepliesOfRun}
-use Rattle.semantics.proofs.RunLaws.{run-listed, occurs-run, run-occurs, Replied, run-replied}
+use Rattle.semantics.specs.Verdict.{traceFrom, trace, longestTrace}
+use Rattle.semantics.specs.Replies.{leftAfter, to-do, at-end, told, RepliesOfRun}
+use Rattle.semantics.proofs.RunLaws.{occurs-run, run-occurs, Replied, run-replied, run-last}
 use Rattle.semantics.proofs.FollowLaws.{branch-either, routine-length}
-use Rattle.semantics.proofs.ReplyLaws.{isDone, full-left, next-follows, still-occurs, end-told}
+use Rattle.semantics.proofs.ReplyLaws.{isDone, full-left, next-follows, leads-still, still-occurs, end-told}
 
 -- Every action of a policy is below k.
 unfoldable pub ActionsBelow : (k : ℕ) → Policy → Type 0
@@ -49,19 +48,6 @@ left-below k done (r ∷ rs) b = tt
 left-below k (perform a after) (r ∷ rs) b = left-below k (after r) rs (b .1 r)
 
 module _ (sheet : Sheet) where
-  -- The last state of a run is a state.
-  steps-last : (s : ℕ) (h : History) (rest : List ℕ) → isState sheet s ≡ true → Steps sheet s h rest → isState sheet (lastFrom s rest) ≡ true
-  unfolding Steps lastFrom
-  steps-last s [] [] i p = i
-  steps-last s [] (t ∷ rest) i p = absurd p
-  steps-last s (e ∷ h) [] i p = absurd p
-  steps-last s (e ∷ h) (t ∷ rest) i p = steps-last t h rest (p .0) (p .2)
-
-  pub run-last : (h : History) (run : List ℕ) → IsRun sheet h run → isState sheet (lastState run) ≡ true
-  unfolding IsRun lastState
-  run-last h [] p = absurd p
-  run-last h (s ∷ rest) p = steps-last s h rest (p .0) (p .2)
-
   -- The entries of a history that follows few actions, with few replies each, fit.
   follows-fit : (k : ℕ) → k ≤ 31 → ((a : ℕ) → replyCount (actionOf sheet a) ≤ 8) → (p : Policy) (h : History) → ActionsBelow k p → Follows p h → Replied sheet h → EntriesFit h
   unfolding ActionsBelow Follows Replied EntriesFit
@@ -95,7 +81,7 @@ module _ (sheet : Sheet) where
   trace-length h (s ∷ rest) p = let l = steps-length s h rest (p .2) in omega arith
 
 -- An accepted sheet.
-module _ (bytes : List ℕ) (sheet : Sheet) (read : reading bytes ≡ accepted sheet) where
+module _ (bytes : List ℕ) (sheet : Sheet) (read : reading bytes ≡ gives sheet) where
   -- A run starts: some run has the empty history.
   pub starts : occurs sheet [] ≡ true
   unfolding IsRun Steps
@@ -110,7 +96,7 @@ module _ (bytes : List ℕ) (sheet : Sheet) (read : reading bytes ≡ accepted s
 
   -- Every run that follows the routine and isn't full has a longer one: with each state a reply and a next state (2013), none gets stuck.
   pub goes-on : (h : History) (run : List ℕ) → Following sheet h run → isFull (routine sheet) h ≡ false → (e : Entry) × (longer : List ℕ) × Following sheet (h ++ (e ∷ [])) longer
-  unfolding Following isDone ActionsBelow routine stillPossible step
+  unfolding Following isDone ActionsBelow routine step
   goes-on h run f n = go (leftAfter (routine sheet) (replies h)) refl (sym (full-left (routine sheet) h (f .1)) ∙ n)
       (left-below (length (sheet .actions)) (routine sheet) (replies h) routine-below)
     where
@@ -122,9 +108,7 @@ module _ (bytes : List ℕ) (sheet : Sheet) (read : reading bytes ≡ accepted s
           let x = action-steps sheet (actionOf sheet a) (accepted-passed bytes sheet read .leads (actionOf sheet a) m) (accepted-passed bytes sheet read .answered (actionOf sheet a) m)
           (lastState run) (run-last sheet h run (f .0)) in
           let o : occurs sheet (extended h a (x .0)) ≡ true =
-          sym (still-occurs sheet h a (x .0))
-          ∙ mem-exists (λ run. exists (λ t. step sheet (entry a (x .0)) (lastState run) t) (states sheet)) (runs sheet h) (run-listed sheet h run (f .0))
-          (mem-exists (λ t. step sheet (entry a (x .0)) (lastState run) t) (states sheet) (state-listed sheet (x .1) (x .2)) (x .3)) in
+          sym (still-occurs sheet h a (x .0)) ∙ leads-still sheet h (entry a (x .0)) run (x .1) (f .0) (x .2) (x .3) in
           let w = occurs-run sheet (extended h a (x .0)) o in
           (entry a (x .0), w .0, (w .1, next-follows (routine sheet) h a after (x .0) (f .1) e))
 
@@ -136,7 +120,7 @@ module _ (bytes : List ℕ) (sheet : Sheet) (read : reading bytes ≡ accepted s
   unfolding RepliesOfRun Following
   replies-most rs q = rw (← q .3, length-map) (actions-most (q .0) (q .2 .1))
 
-  pub trace-most : (h : History) (run : List ℕ) → Following sheet h run → length (trace h run) ≤ 129
+  pub trace-most : (h : History) (run : List ℕ) → Following sheet h run → length (trace h run) ≤ longestTrace
   unfolding Following
   trace-most h run f = omega (arith, trace-length sheet h run (f .0), actions-most h (f .1))
 

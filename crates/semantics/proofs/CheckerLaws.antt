@@ -9,11 +9,11 @@ use lib.ListN.{length}
 use borrow.Author.Tests.{eqb-true, eq-eqb, le-leb}
 use Rattle.lists.proofs.ListLaws.{not-both, both-true, and-both}
 use Rattle.format.specs.Syntax.{Sheet}
-use Rattle.format.specs.Format.{accepted, reading}
+use Rattle.format.specs.Format.{Answer, gives, refused, onAccepted, reading}
 use Rattle.semantics.specs.Runs.{History, Steps, IsRun, isRun}
 use Rattle.semantics.specs.Routine.{routine, follows, Following, Full, Failing}
-use Rattle.semantics.specs.Verdict.{fails, traceFrom, trace}
-use Rattle.semantics.specs.Checker.{shownHistory, shownStates, showsFailing, isTraceLength, checkedFor, checked}
+use Rattle.semantics.specs.Verdict.{fails, traceFrom, trace, longestTrace}
+use Rattle.semantics.specs.Checker.{shownHistory, shownStates, showsFailing, isTraceLength, checked}
 use Rattle.semantics.proofs.RunLaws.{tested-run, run-tested}
 use Rattle.semantics.proofs.FollowLaws.{tested-follows, follows-tested}
 use Rattle.semantics.proofs.VerdictLaws.{failing-fails, fails-failing}
@@ -59,29 +59,42 @@ module _ (sheet : Sheet) where
       let q = trace-shows sheet s h rest (f .0 .0 .0 .2) b in
       rw (q .0, q .1, run-tested sheet h (s ∷ rest) (f .0 .0 .0), follows-tested (routine sheet) h (f .0 .0 .1)) (failing-fails sheet h (s ∷ rest) f)
 
-module _ (bytes : List ℕ) (sheet : Sheet) (read : reading bytes ≡ accepted sheet) where
+-- A refused sheet gets its number, and only a refused sheet gets one.
+pub checked-refused : (bytes shown : List ℕ) (r : ℕ) → reading bytes ≡ refused r → checked bytes shown ≡ refused r
+unfolding checked onAccepted
+checked-refused bytes shown r e = rw e
+
+pub checked-number : (bytes shown : List ℕ) (k : ℕ) → refused k ≡ checked bytes shown → reading bytes ≡ refused k
+unfolding checked onAccepted
+checked-number bytes shown k e = go (reading bytes) refl e
+  where
+    go : (x : Answer Sheet) → reading bytes ≡ x → refused k ≡ onAccepted (λ sheet. gives (isTraceLength (length shown) && showsFailing sheet shown)) x → reading bytes ≡ refused k
+    go (gives sheet) r d = let z : _≡_ {A = ℕ} 0 1 = cc in absurd (omega arith)
+    go (refused j) r d = r ∙ cc
+
+module _ (bytes : List ℕ) (sheet : Sheet) (read : reading bytes ≡ gives sheet) where
   -- The answer for an accepted sheet.
-  pub checked-accepted : (shown : List ℕ) → checked bytes shown ≡ accepted (isTraceLength (length shown) && showsFailing sheet shown)
-  unfolding checked checkedFor
+  pub checked-accepted : (shown : List ℕ) → checked bytes shown ≡ gives (isTraceLength (length shown) && showsFailing sheet shown)
+  unfolding checked onAccepted
   checked-accepted shown = rw read
 
   -- It is yes exactly if the bytes are the trace of a full run following the routine whose history fails the goal.
-  pub yes-failing : (shown : List ℕ) → checked bytes shown ≡ accepted true → (h : History) × (run : List ℕ) × Failing sheet h run × (shown ≡ trace h run)
+  pub yes-failing : (shown : List ℕ) → checked bytes shown ≡ gives true → (h : History) × (run : List ℕ) × Failing sheet h run × (shown ≡ trace h run)
   unfolding isTraceLength trace
   yes-failing shown e = go shown (both-true (isTraceLength (length shown)) (showsFailing sheet shown) (let k = sym (checked-accepted shown) ∙ e in cc))
     where
       go : (bs : List ℕ) → (isTraceLength (length bs) ≡ true) × (showsFailing sheet bs ≡ true) → (h : History) × (run : List ℕ) × Failing sheet h run × (bs ≡ trace h run)
       go [] k = not-both (k .0) refl
       go (s ∷ rest) k =
-          let odd : length (s ∷ rest) % 2 ≡ 1 = eqb-true (length (s ∷ rest) % 2) 1 ((both-true (eqb (length (s ∷ rest) % 2) 1) (leb (length (s ∷ rest)) 129) (k .0)) .0) in
+          let odd : length (s ∷ rest) % 2 ≡ 1 = eqb-true (length (s ∷ rest) % 2) 1 ((both-true (eqb (length (s ∷ rest) % 2) 1) (leb (length (s ∷ rest)) longestTrace) (k .0)) .0) in
           (shownHistory rest, s ∷ shownStates rest, shows-run sheet s rest (k .1), ap (λ (l : List ℕ). s ∷ l) (sym (shown-trace rest (omega arith))))
 
-  pub failing-yes : (h : History) (run : List ℕ) → Failing sheet h run → checked bytes (trace h run) ≡ accepted true
+  pub failing-yes : (h : History) (run : List ℕ) → Failing sheet h run → checked bytes (trace h run) ≡ gives true
   unfolding isTraceLength Failing Full Following
   failing-yes h run f =
       let p : IsRun sheet h run = f .0 .0 .0 in
       let l : length (trace h run) % 2 ≡ 1 = omega (arith, trace-length sheet h run p) in
       checked-accepted (trace h run)
-      ∙ ap accepted (and-both (isTraceLength (length (trace h run))) (showsFailing sheet (trace h run))
-      (and-both (eqb (length (trace h run) % 2) 1) (leb (length (trace h run)) 129) (eq-eqb (length (trace h run) % 2) 1 l) (le-leb (length (trace h run)) 129 (trace-most bytes sheet read h run (f .0 .0))))
+      ∙ ap gives (and-both (isTraceLength (length (trace h run))) (showsFailing sheet (trace h run))
+      (and-both (eqb (length (trace h run) % 2) 1) (leb (length (trace h run)) longestTrace) (eq-eqb (length (trace h run) % 2) 1 l) (le-leb (length (trace h run)) longestTrace (trace-most bytes sheet read h run (f .0 .0))))
       (run-shows sheet h run (entries-fit bytes sheet read h run (f .0 .0)) f))

@@ -1,6 +1,6 @@
 -- Progression agrees with runs: for states, and for every epistemic formula. Assumes nothing.
 use Prim.Native.Nat.{ℕ}
-use mathlib.Core.Path.{_≡_, refl, sym, ap, _∙_}
+use mathlib.Core.Path.{_≡_, refl, sym, ap, subst, _∙_}
 use mathlib.Core.List.{List, [], _∷_, _++_, List·Memᴰ}
 use mathlib.Core.Bool.{Bool, true, not, _&&_}
 use Rattle.lists.specs.Lists.{every, exists, keep, nonempty}
@@ -8,9 +8,9 @@ use Rattle.lists.proofs.ListLaws.{same-test, both-true, keep-mem, mem-keep, eve
 use Rattle.format.specs.Syntax.{Objective, Epistemic, known, not-known, all-of, any-of, Sheet}
 use Rattle.format.specs.Truth.{isState, states, holds}
 use Rattle.format.proofs.StateLaws.{listed-state, state-listed}
-use Rattle.semantics.specs.Runs.{Entry, History, step, Steps, IsRun, lastFrom, lastState, startStates, runs, knownAfter, holdsAfter, occurs}
+use Rattle.semantics.specs.Runs.{Entry, History, step, Steps, IsRun, lastFrom, lastState, Possible, startStates, runs, knownAfter, holdsAfter, isPossible, possibleStates, occurs}
 use Rattle.semantics.specs.Progression.{progress, possibleFrom, possible, satisfies, startSet, nextSet, setAfter}
-use Rattle.semantics.proofs.RunLaws.{listed-run, run-listed, occurs-run, run-occurs}
+use Rattle.semantics.proofs.RunLaws.{listed-run, run-listed, occurs-run, run-occurs, tested-possible, possible-tested}
 
 module _ (sheet : Sheet) where
   -- A state is possible after a history exactly if some run with that history ends in it.
@@ -51,6 +51,37 @@ module _ (sheet : Sheet) where
       (mem-keep (holds (sheet .start)) (states sheet) (state-listed sheet s (p .0)) (p .1))
       (p .2)
 
+  -- The sets as tests: they list the possible states.
+  progress-keep : (set : ℕ → Bool) (e : Entry) → progress sheet (keep set (states sheet)) e ≡ keep (nextSet sheet set e) (states sheet)
+  unfolding progress nextSet
+  progress-keep set e =
+      keep-same (λ t. exists (λ s. step sheet e s t) (keep set (states sheet))) (nextSet sheet set e) (states sheet)
+      (λ t m. exists-keep (λ s. step sheet e s t) set (states sheet) ∙ ap (λ (b : Bool). b && exists (λ s. set s && step sheet e s t) (states sheet)) (sym (listed-state sheet m)))
+
+  from-keep : (h : History) (set : ℕ → Bool) → possibleFrom sheet (keep set (states sheet)) h ≡ keep (setAfter sheet set h) (states sheet)
+  unfolding possibleFrom setAfter
+  from-keep [] set = refl
+  from-keep (e ∷ h) set = ap (λ (ss : List ℕ). possibleFrom sheet ss h) (progress-keep set e) ∙ from-keep h (nextSet sheet set e)
+
+  pub possible-keep : (h : History) → possible sheet h ≡ keep (setAfter sheet (startSet sheet) h) (states sheet)
+  unfolding possible startStates startSet
+  possible-keep h =
+      ap (λ (ss : List ℕ). possibleFrom sheet ss h)
+      (keep-same (holds (sheet .start)) (startSet sheet) (states sheet) (λ t m. ap (λ (b : Bool). b && holds (sheet .start) t) (sym (listed-state sheet m))))
+      ∙ from-keep h (startSet sheet)
+
+  -- So the method's list is that of the states still possible.
+  pub method-states : (h : History) → possible sheet h ≡ possibleStates sheet h
+  unfolding possibleStates Possible
+  method-states h =
+      possible-keep h ∙ keep-same (setAfter sheet (startSet sheet) h) (isPossible sheet h) (states sheet) (λ t m.
+      same-test (setAfter sheet (startSet sheet) h t) (isPossible sheet h t)
+      (λ e. possible-tested sheet h t (possible-run h (rw (possible-keep h) (mem-keep (setAfter sheet (startSet sheet) h) (states sheet) m e))))
+      (λ e.
+      let p = tested-possible sheet h t e in
+      let k : List·Memᴰ t (possible sheet h) = subst (λ (s : ℕ). List·Memᴰ s (possible sheet h)) (p .2) (run-possible h (p .0) (p .1)) in
+      (keep-mem (setAfter sheet (startSet sheet) h) (states sheet) (rw (possible-keep h) at k)) .1))
+
   -- Hence what is known after a history is what holds in all possible states, and so for every epistemic formula.
   known-possible : (h : History) (f : Objective) → knownAfter sheet h f ≡ every (holds f) (possible sheet h)
   unfolding knownAfter
@@ -85,25 +116,7 @@ module _ (sheet : Sheet) where
   unfolding possible possibleFrom
   possible-more h e = from-append h (e ∷ []) (startStates sheet)
 
-  -- The sets as tests: they list the possible states, and only states pass.
-  progress-keep : (set : ℕ → Bool) (e : Entry) → progress sheet (keep set (states sheet)) e ≡ keep (nextSet sheet set e) (states sheet)
-  unfolding progress nextSet
-  progress-keep set e =
-      keep-same (λ t. exists (λ s. step sheet e s t) (keep set (states sheet))) (nextSet sheet set e) (states sheet)
-      (λ t m. exists-keep (λ s. step sheet e s t) set (states sheet) ∙ ap (λ (b : Bool). b && exists (λ s. set s && step sheet e s t) (states sheet)) (sym (listed-state sheet m)))
-
-  from-keep : (h : History) (set : ℕ → Bool) → possibleFrom sheet (keep set (states sheet)) h ≡ keep (setAfter sheet set h) (states sheet)
-  unfolding possibleFrom setAfter
-  from-keep [] set = refl
-  from-keep (e ∷ h) set = ap (λ (ss : List ℕ). possibleFrom sheet ss h) (progress-keep set e) ∙ from-keep h (nextSet sheet set e)
-
-  pub possible-keep : (h : History) → possible sheet h ≡ keep (setAfter sheet (startSet sheet) h) (states sheet)
-  unfolding possible startStates startSet
-  possible-keep h =
-      ap (λ (ss : List ℕ). possibleFrom sheet ss h)
-      (keep-same (holds (sheet .start)) (startSet sheet) (states sheet) (λ t m. ap (λ (b : Bool). b && holds (sheet .start) t) (sym (listed-state sheet m))))
-      ∙ from-keep h (startSet sheet)
-
+  -- Only states pass these tests.
   after-states : (h : History) (set : ℕ → Bool) → ((t : ℕ) → set t ≡ true → isState sheet t ≡ true) → (t : ℕ) → setAfter sheet set h t ≡ true → isState sheet t ≡ true
   unfolding setAfter nextSet
   after-states [] set k t e = k t e

@@ -2,7 +2,7 @@
 use Prim.Native.Nat.{ℕ, _≤_}
 use mathlib.Core.Path.{_≡_, refl, sym, ap, subst, _∙_}
 use mathlib.Core.Logic.{⊎-elim, _↔_}
-use mathlib.Core.List.{List, [], _∷_, _++_, map-append, append-nil, append-assoc, head-eq-of-cons-eq, tail-eq-of-cons-eq}
+use mathlib.Core.List.{List, [], _∷_, _++_, map-append, append-nil, append-assoc, List·Memᴰ, head-eq-of-cons-eq, tail-eq-of-cons-eq}
 use mathlib.Core.Bool.{Bool, true, false}
 use native.Mathlib.Omega.{arith}
 use lib.Dec.{ltb, eqb}
@@ -11,14 +11,15 @@ use borrow.Author.Tests.{lt-ltb, eqb-true, eq-eqb}
 use Rattle.lists.specs.Lists.{if_then_else_, exists, nonempty}
 use Rattle.lists.proofs.ListLaws.{two-cases, same-test, not-both, both-true, and-both, keep-mem, mem-keep, exists-mem, mem-exists, mem-nonempty, nonempty-mem}
 use Rattle.format.specs.Syntax.{replyCount, Sheet, actionOf}
-use Rattle.format.specs.Truth.{states}
-use Rattle.format.specs.Format.{accepted, refused}
-use Rattle.semantics.specs.Runs.{Entry, entry, History, extended, replies, step, lastState, Holds, runs, holdsAfter, occurs}
+use Rattle.format.specs.Truth.{isState, states}
+use Rattle.format.specs.Format.{gives, refused}
+use Rattle.format.proofs.StateLaws.{listed-state, state-listed}
+use Rattle.semantics.specs.Runs.{Entry, entry, History, extended, replies, step, IsRun, lastState, Possible, Holds, nextStates, holdsAfter, possibleStates, occurs}
 use Rattle.semantics.specs.Routine.{Policy, done, perform, routine, Follows, isFull, Following, Full, Failing}
 use Rattle.semantics.specs.Verdict.{historyCount, valid, Outcome, outcome}
 use Rattle.semantics.specs.Replies.{leftAfter, historyOf, to-do, at-end, toldBy, told, stillPossible, reportedTo, reported, AcceptedBehind, AcceptedReplies, RepliesOfRun, areOfRun}
 use Rattle.semantics.specs.Progression.{progress, possible}
-use Rattle.semantics.proofs.RunLaws.{listed-run, run-listed, occurs-run, run-occurs, occurs-before, tested-holds, holds-tested}
+use Rattle.semantics.proofs.RunLaws.{occurs-run, run-occurs, occurs-before, tested-holds, holds-tested, listed-possible, possible-listed}
 use Rattle.semantics.proofs.ProgressionLaws.{possible-run, run-possible, possible-more, occurs-possible}
 use Rattle.semantics.proofs.FollowLaws.{occurs-reply}
 use Rattle.semantics.proofs.VerdictLaws.{valid-means, means-valid}
@@ -72,6 +73,12 @@ next-follows (perform b k) [] a after r f e = (cc, follows-none (k r))
 next-follows done (d ∷ h) a after r f e = absurd f
 next-follows (perform b k) (d ∷ h) a after r f e = (f .0, next-follows (k (d .reply)) h a after r (f .1) e)
 
+-- What is told after a history that follows the routine, by what is left.
+pub told-left : (sheet : Sheet) (h : History) → Follows (routine sheet) h → (p : Policy) → leftAfter (routine sheet) (replies h) ≡ p → told sheet (replies h) ≡ toldBy sheet p h
+unfolding told
+told-left sheet h f p l =
+    ap (λ (g : History). toldBy sheet (leftAfter (routine sheet) (replies h)) g) (follows-history (routine sheet) h f) ∙ ap (λ (q : Policy). toldBy sheet q h) l
+
 -- Where an action is left after some replies, they make a history that follows and has just these.
 left-history : (p : Policy) (rs : List ℕ) (a : ℕ) (after : ℕ → Policy) → leftAfter p rs ≡ perform a after → Follows p (historyOf p rs) × (replies (historyOf p rs) ≡ rs)
 unfolding leftAfter historyOf Follows
@@ -109,59 +116,73 @@ split-replies (d ∷ h) (r ∷ rs) ss e =
     (d ∷ q .0, q .1, ap (λ (l : History). d ∷ l) (q .2), (λ i. here i ∷ q .3 i), q .4)
 
 module _ (sheet : Sheet) where
-  -- A reply is true in some state still possible exactly if some run has the history with it.
+  -- A reply is true in some state still possible if the entry leads on from the end of some run.
+  pub leads-still : (h : History) (e : Entry) (run : List ℕ) (t : ℕ) → IsRun sheet h run → isState sheet t ≡ true → step sheet e (lastState run) t ≡ true → stillPossible sheet h e ≡ true
+  unfolding stillPossible nextStates Possible
+  leads-still h e run t p i k =
+      mem-exists (λ s. nonempty (nextStates sheet e s)) (possibleStates sheet h) (possible-listed sheet h (lastState run) (run, p, refl))
+      (mem-nonempty (nextStates sheet e (lastState run)) (mem-keep (step sheet e (lastState run)) (states sheet) (state-listed sheet t i) k))
+
+  still-leads : (h : History) (e : Entry) → stillPossible sheet h e ≡ true
+      → (run : List ℕ) × (t : ℕ) × IsRun sheet h run × List·Memᴰ t (states sheet) × (step sheet e (lastState run) t ≡ true)
+  unfolding stillPossible nextStates Possible
+  still-leads h e k =
+      let x = exists-mem (λ s. nonempty (nextStates sheet e s)) (possibleStates sheet h) k in
+      let y = nonempty-mem (nextStates sheet e (x .0)) (x .2) in
+      let z = keep-mem (step sheet e (x .0)) (states sheet) (y .1) in
+      let r = listed-possible sheet h (x .1) in
+      (r .0, y .0, r .1, z .0, ap (λ (s : ℕ). step sheet e s (y .0)) (r .2) ∙ z .1)
+
+  -- So it is exactly if some run has the history with it.
   pub still-occurs : (h : History) (a r : ℕ) → stillPossible sheet h (entry a r) ≡ occurs sheet (extended h a r)
-  unfolding stillPossible progress
+  unfolding progress
   still-occurs h a r =
       same-test (stillPossible sheet h (entry a r)) (occurs sheet (extended h a r))
       (λ t.
-      let x = exists-mem (λ run. exists (λ t. step sheet (entry a r) (lastState run) t) (states sheet)) (runs sheet h) t in
-      let y = exists-mem (λ t. step sheet (entry a r) (lastState (x .0)) t) (states sheet) (x .2) in
+      let x = still-leads h (entry a r) t in
       occurs-possible sheet (extended h a r) ∙ ap (nonempty {A = ℕ}) (possible-more sheet h (entry a r))
       ∙ mem-nonempty (progress sheet (possible sheet h) (entry a r))
-      (mem-keep (λ t. exists (λ s. step sheet (entry a r) s t) (possible sheet h)) (states sheet) (y .1)
-      (mem-exists (λ s. step sheet (entry a r) s (y .0)) (possible sheet h) (run-possible sheet h (x .0) (listed-run sheet h (x .1))) (y .2))))
+      (mem-keep (λ t. exists (λ s. step sheet (entry a r) s t) (possible sheet h)) (states sheet) (x .3)
+      (mem-exists (λ s. step sheet (entry a r) s (x .1)) (possible sheet h) (run-possible sheet h (x .0) (x .2)) (x .4))))
       (λ t.
       let x = nonempty-mem (progress sheet (possible sheet h) (entry a r)) (sym (ap (nonempty {A = ℕ}) (possible-more sheet h (entry a r))) ∙ sym (occurs-possible sheet (extended h a r)) ∙ t) in
       let y = keep-mem (λ t. exists (λ s. step sheet (entry a r) s t) (possible sheet h)) (states sheet) (x .1) in
       let z = exists-mem (λ s. step sheet (entry a r) s (x .0)) (possible sheet h) (y .1) in
       let w = possible-run sheet h (z .1) in
-      mem-exists (λ run. exists (λ t. step sheet (entry a r) (lastState run) t) (states sheet)) (runs sheet h) (run-listed sheet h (w .0) (w .1))
-      (mem-exists (λ t. step sheet (entry a r) (lastState (w .0)) t) (states sheet) (y .0)
-      (ap (λ (s : ℕ). step sheet (entry a r) s (x .0)) (w .2) ∙ z .2)))
+      leads-still h (entry a r) (w .0) (x .0) (w .1) (listed-state sheet (y .0)) (ap (λ (s : ℕ). step sheet (entry a r) s (x .0)) (w .2) ∙ z .2))
 
   -- A report behind the replies of a history that follows: it is accepted exactly if an action is left and some run has the history with it and the reply.
   next-reported : (h : History) (a : ℕ) (after : ℕ → Policy) (r : ℕ) → Follows (routine sheet) h → leftAfter (routine sheet) (replies h) ≡ perform a after
-      → occurs sheet (extended h a r) ≡ true → reported sheet (replies h) r ≡ accepted (replies h ++ (r ∷ []))
+      → occurs sheet (extended h a r) ≡ true → reported sheet (replies h) r ≡ gives (replies h ++ (r ∷ []))
   unfolding reported reportedTo if_then_else_
   next-reported h a after r f e o =
       rw (follows-history (routine sheet) h f, e, lt-ltb r (replyCount (actionOf sheet a)) (occurs-reply sheet h a r o), still-occurs h a r ∙ o)
 
-  reported-next : (h : History) (r : ℕ) (rs : List ℕ) → Follows (routine sheet) h → reported sheet (replies h) r ≡ accepted rs
+  reported-next : (h : History) (r : ℕ) (rs : List ℕ) → Follows (routine sheet) h → reported sheet (replies h) r ≡ gives rs
       → (a : ℕ) × (after : ℕ → Policy) × (leftAfter (routine sheet) (replies h) ≡ perform a after) × (occurs sheet (extended h a r) ≡ true)
   unfolding reported reportedTo if_then_else_
   reported-next h r rs f e = go (leftAfter (routine sheet) (replies h)) refl (rw (follows-history (routine sheet) h f) at e)
     where
       tests : (a : ℕ) (after : ℕ → Policy) (b c : Bool) → stillPossible sheet h (entry a r) ≡ c
-          → (if b then (if c then accepted (replies h ++ (r ∷ [])) else refused 34) else refused 33) ≡ accepted rs → occurs sheet (extended h a r) ≡ true
+          → (if b then (if c then gives (replies h ++ (r ∷ [])) else refused 34) else refused 33) ≡ gives rs → occurs sheet (extended h a r) ≡ true
       tests a after true true p k = sym (still-occurs h a r) ∙ p
       tests a after true false p k = let z : _≡_ {A = ℕ} 0 1 = cc in absurd (omega arith)
       tests a after false c p k = let z : _≡_ {A = ℕ} 0 1 = cc in absurd (omega arith)
 
-      go : (q : Policy) → leftAfter (routine sheet) (replies h) ≡ q → reportedTo sheet q h (replies h) r ≡ accepted rs
+      go : (q : Policy) → leftAfter (routine sheet) (replies h) ≡ q → reportedTo sheet q h (replies h) r ≡ gives rs
           → (a : ℕ) × (after : ℕ → Policy) × (leftAfter (routine sheet) (replies h) ≡ perform a after) × (occurs sheet (extended h a r) ≡ true)
       go done p k = let z : _≡_ {A = ℕ} 0 1 = cc in absurd (omega arith)
       go (perform a after) p k = (a, after, p, tests a after (ltb r (replyCount (actionOf sheet a))) (stillPossible sheet h (entry a r)) refl k)
 
   -- A reply list with one more is accepted exactly if it is that of some run following the routine.
-  pub accepted-run : (rs : List ℕ) (r : ℕ) → reported sheet rs r ≡ accepted (rs ++ (r ∷ [])) → RepliesOfRun sheet (rs ++ (r ∷ []))
+  pub accepted-run : (rs : List ℕ) (r : ℕ) → reported sheet rs r ≡ gives (rs ++ (r ∷ [])) → RepliesOfRun sheet (rs ++ (r ∷ []))
   unfolding reported reportedTo RepliesOfRun Following
   accepted-run rs r e = go (leftAfter (routine sheet) rs) refl e
     where
       h : History
       h = historyOf (routine sheet) rs
 
-      go : (q : Policy) → leftAfter (routine sheet) rs ≡ q → reportedTo sheet q h rs r ≡ accepted (rs ++ (r ∷ [])) → RepliesOfRun sheet (rs ++ (r ∷ []))
+      go : (q : Policy) → leftAfter (routine sheet) rs ≡ q → reportedTo sheet q h rs r ≡ gives (rs ++ (r ∷ [])) → RepliesOfRun sheet (rs ++ (r ∷ []))
       go done p k = let z : _≡_ {A = ℕ} 0 1 = cc in absurd (omega arith)
       go (perform a after) p k =
           let l = left-history (routine sheet) rs a after p in
@@ -169,20 +190,20 @@ module _ (sheet : Sheet) where
           let w = occurs-run sheet (extended h (n .0) r) (n .3) in
           (extended h (n .0) r, w .0, (w .1, next-follows (routine sheet) h (n .0) (n .1) r (l .0) (n .2)), map-append (λ (x : Entry). x .reply) h (entry (n .0) r ∷ []) ∙ ap (λ (x : List ℕ). x ++ (r ∷ [])) (l .1))
 
-  pub run-accepted : (rs : List ℕ) (r : ℕ) → RepliesOfRun sheet (rs ++ (r ∷ [])) → reported sheet rs r ≡ accepted (rs ++ (r ∷ []))
+  pub run-accepted : (rs : List ℕ) (r : ℕ) → RepliesOfRun sheet (rs ++ (r ∷ [])) → reported sheet rs r ≡ gives (rs ++ (r ∷ []))
   unfolding RepliesOfRun Following
   run-accepted rs r q =
       let s = split-replies (q .0) rs (r ∷ []) (q .3) in
       go (s .0) (s .1) (s .3) (s .4) (subst (Follows (routine sheet)) (s .2) (q .2 .1)) (subst (λ (x : History). occurs sheet x ≡ true) (s .2) (run-occurs sheet (q .0) (q .1) (q .2 .0)))
     where
-      go : (h k : History) → replies h ≡ rs → replies k ≡ r ∷ [] → Follows (routine sheet) (h ++ k) → occurs sheet (h ++ k) ≡ true → reported sheet rs r ≡ accepted (rs ++ (r ∷ []))
+      go : (h k : History) → replies h ≡ rs → replies k ≡ r ∷ [] → Follows (routine sheet) (h ++ k) → occurs sheet (h ++ k) ≡ true → reported sheet rs r ≡ gives (rs ++ (r ∷ []))
       go h [] x y f o = let z : _≡_ {A = ℕ} 0 1 = cc in absurd (omega arith)
       go h (d ∷ e ∷ k) x y f o = let z : _≡_ {A = ℕ} 0 1 = cc in absurd (omega arith)
       go h (d ∷ []) x y f o =
           let same : d .reply ≡ r = head-eq-of-cons-eq y in
           let n = left-next (routine sheet) h d [] f in
           let o′ : occurs sheet (extended h (d .action) r) ≡ true = subst (λ (i : ℕ). occurs sheet (extended h (d .action) i) ≡ true) same o in
-          subst (λ (l : List ℕ). reported sheet l r ≡ accepted (l ++ (r ∷ []))) x (next-reported h (d .action) (n .0) r (follows-before (routine sheet) h (d ∷ []) f) (n .1) o′)
+          subst (λ (l : List ℕ). reported sheet l r ≡ gives (l ++ (r ∷ []))) x (next-reported h (d .action) (n .0) r (follows-before (routine sheet) h (d ∷ []) f) (n .1) o′)
 
   -- So the replies accepted one after the other are those of some run following the routine.
   run-before : (rs ss : List ℕ) → RepliesOfRun sheet (rs ++ ss) → RepliesOfRun sheet rs

@@ -4,14 +4,15 @@ use mathlib.Core.Path.{_≡_, refl, sym, ap, subst, _∙_}
 use mathlib.Core.Logic.{_⊎_, inl, inr, ⊎-elim}
 use mathlib.Core.List.{List, [], _∷_, _++_, flatMap, headD, List·Memᴰ, List·Memᴰ·head, List·Memᴰ·not-nil, List·Memᴰ·cases-cons, List·Memᴰ·eq-of-singleton, Memᴰ·map, Memᴰ·of-map}
 use mathlib.Core.Bool.{true, false, not, _&&_}
-use borrow.Author.Tests.{not-true}
+use lib.Dec.{eqb}
+use borrow.Author.Tests.{not-true, eqb-true, eq-eqb}
 use Rattle.lists.specs.Lists.{Sorted, Before}
-use Rattle.lists.proofs.ListLaws.{two-cases, not-both, both-true, and-both, one-true, or-left, or-right, keep-mem, mem-keep, every-mem, mem-every, flat-mem, mem-flat, mem-nonempty, nonempty-mem}
+use Rattle.lists.proofs.ListLaws.{two-cases, not-both, both-true, and-both, one-true, or-left, or-right, keep-mem, mem-keep, every-mem, mem-every, exists-mem, mem-exists, flat-mem, mem-flat, mem-nonempty, nonempty-mem}
 use Rattle.lists.proofs.OrderLaws.{sorted-keep, sorted-flat, sorted-map}
 use Rattle.format.specs.Syntax.{Objective, Epistemic, known, not-known, all-of, any-of, replyCount, Sheet, actionOf}
 use Rattle.format.specs.Truth.{isState, states, holds, moves, replyHolds, allowed}
 use Rattle.format.proofs.StateLaws.{listed-state, state-listed, states-sorted, reply-exists}
-use Rattle.semantics.specs.Runs.{History, step, Steps, IsRun, lastState, Known, Holds, startStates, nextStates, runsFrom, runs, knownAfter, holdsAfter, occurs, isSteps, isRun}
+use Rattle.semantics.specs.Runs.{History, step, Steps, IsRun, lastFrom, lastState, Known, Possible, Holds, startStates, nextStates, runsFrom, runs, knownAfter, holdsAfter, isPossible, possibleStates, occurs, isSteps, isRun}
 use Rattle.semantics.specs.Verdict.{leastRun}
 
 -- Every reply of a history is one of its action's.
@@ -151,6 +152,43 @@ module _ (sheet : Sheet) where
   holds-tested h (all-of f g) k = and-both (holdsAfter sheet h f) (holdsAfter sheet h g) (holds-tested h f (k .0)) (holds-tested h g (k .1))
   holds-tested h (any-of f g) k =
       ⊎-elim (λ a. or-left (holdsAfter sheet h f) (holdsAfter sheet h g) (holds-tested h f a)) (λ b. or-right (holdsAfter sheet h f) (holdsAfter sheet h g) (holds-tested h g b)) k
+
+  -- The last state of a run is a state.
+  steps-last : (s : ℕ) (h : History) (rest : List ℕ) → isState sheet s ≡ true → Steps sheet s h rest → isState sheet (lastFrom s rest) ≡ true
+  unfolding Steps lastFrom
+  steps-last s [] [] i p = i
+  steps-last s [] (t ∷ rest) i p = absurd p
+  steps-last s (e ∷ h) [] i p = absurd p
+  steps-last s (e ∷ h) (t ∷ rest) i p = steps-last t h rest (p .0) (p .2)
+
+  pub run-last : (h : History) (run : List ℕ) → IsRun sheet h run → isState sheet (lastState run) ≡ true
+  unfolding IsRun lastState
+  run-last h [] p = absurd p
+  run-last h (s ∷ rest) p = steps-last s h rest (p .0) (p .2)
+
+  -- The test of a state tells whether it is still possible; the list has just these states, strictly in order, so none of them twice.
+  pub tested-possible : (h : History) (t : ℕ) → isPossible sheet h t ≡ true → Possible sheet h t
+  unfolding isPossible Possible
+  tested-possible h t e =
+      let x = exists-mem (λ run. eqb (lastState run) t) (runs sheet h) e in
+      (x .0, listed-run h (x .1), eqb-true (lastState (x .0)) t (x .2))
+
+  pub possible-tested : (h : History) (t : ℕ) → Possible sheet h t → isPossible sheet h t ≡ true
+  unfolding isPossible Possible
+  possible-tested h t p = mem-exists (λ run. eqb (lastState run) t) (runs sheet h) (run-listed h (p .0) (p .1)) (eq-eqb (lastState (p .0)) t (p .2))
+
+  pub listed-possible : (h : History) {t : ℕ} → List·Memᴰ t (possibleStates sheet h) → Possible sheet h t
+  unfolding possibleStates
+  listed-possible h {t} m = tested-possible h t ((keep-mem (isPossible sheet h) (states sheet) m) .1)
+
+  pub possible-listed : (h : History) (t : ℕ) → Possible sheet h t → List·Memᴰ t (possibleStates sheet h)
+  unfolding possibleStates Possible
+  possible-listed h t p =
+      mem-keep (isPossible sheet h) (states sheet) (state-listed sheet t (ap (isState sheet) (sym (p .2)) ∙ run-last h (p .0) (p .1))) (possible-tested h t p)
+
+  pub possible-sorted : (h : History) → Sorted _<_ (possibleStates sheet h)
+  unfolding possibleStates
+  possible-sorted h = sorted-keep _<_ (isPossible sheet h) (states sheet) (states-sorted sheet)
 
   -- The test of a run tells whether a list of states is one.
   tested-steps : (s : ℕ) (h : History) (rest : List ℕ) → isSteps sheet s h rest ≡ true → Steps sheet s h rest

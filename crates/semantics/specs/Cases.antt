@@ -2,12 +2,13 @@
 use Prim.Native.Nat.{ℕ, _-_}
 use mathlib.Core.List.{List, [], _∷_, _++_, map}
 use mathlib.Core.Path.{_≡_, refl}
+use mathlib.Core.Bool.{true}
 use lib.ListN.{length, replicate}
 use Rattle.lists.specs.Lists.{upFrom, below}
-use Rattle.format.specs.Syntax.{Objective, top, fact, new-fact, negation, conjunction, disjunction, equivalence, Epistemic, known, not-known, any-of, Program, end, act, branch, Action, change, probe, Sheet}
-use Rattle.format.specs.Format.{Answer, accepted, refused, reading}
+use Rattle.format.specs.Syntax.{Objective, bottom, top, fact, new-fact, negation, conjunction, disjunction, equivalence, Epistemic, known, not-known, any-of, Program, end, act, branch, Action, change, probe, Sheet}
+use Rattle.format.specs.Format.{Answer, gives, refused, reading}
 use Rattle.semantics.specs.Verdict.{Verdict, valid, invalid, stopped, outcome, longestTrace, verified}
-use Rattle.semantics.specs.Replies.{reported}
+use Rattle.semantics.specs.Replies.{to-do, at-end, told, reported}
 use Rattle.semantics.specs.Printing.{digit, printed}
 
 -- A row: the bytes of a sheet, the budget, the verifier's answer, and the trace that it shows.
@@ -71,30 +72,30 @@ example goal =
       program = act 0 (branch (known (equivalence x1 x2)) (act 1 end) (act 2 (act 1 end)) end);
     }
 
-pub sheet9-says : reading sheet9 ≡ accepted (example (any-of (known (conjunction (fact 0) (fact 1))) (known (negation (conjunction (fact 0) (fact 1))))))
+pub sheet9-says : reading sheet9 ≡ gives (example (any-of (known (conjunction (fact 0) (fact 1))) (known (negation (conjunction (fact 0) (fact 1))))))
 unfolding reading
 sheet9-says = refl
 
-pub sheet10-says : reading sheet10 ≡ accepted (example (known (conjunction (fact 0) (fact 1))))
+pub sheet10-says : reading sheet10 ≡ gives (example (known (conjunction (fact 0) (fact 1))))
 unfolding reading
 sheet10-says = refl
 
 -- Cases 1 to 11, in order; 1 and 10 have a second budget.
 abbrev pub starred : List Row
 starred =
-    row sheet1 (accepted (valid 2)) []
-    ∷ within 1 sheet1 (accepted (stopped 1)) []
-    ∷ row sheet2 (accepted (invalid 2 1)) (0x00 ∷ 0x01 ∷ 0x00 ∷ [])
+    row sheet1 (gives (valid 2)) []
+    ∷ within 1 sheet1 (gives (stopped 1)) []
+    ∷ row sheet2 (gives (invalid 2 1)) (0x00 ∷ 0x01 ∷ 0x00 ∷ [])
     ∷ row (0x11 ∷ 0x0C ∷ 0x90 ∷ 0x88 ∷ 0x1C ∷ 0x40 ∷ 0x88 ∷ 0x20 ∷ 0x01 ∷ []) (refused 12) []
     ∷ row (sheet1 ++ (0x00 ∷ [])) (refused 12) []
     ∷ row [] (refused 2) []
     ∷ row (0x21 ∷ []) (refused 3) []
     ∷ row (0x10 ∷ []) (refused 4) []
     ∷ row (0x19 ∷ []) (refused 4) []
-    ∷ row sheet9 (accepted (valid 7)) []
-    ∷ row sheet10 (accepted (invalid 3 2)) (0x00 ∷ 0x00 ∷ 0x00 ∷ 0x09 ∷ 0x00 ∷ [])
-    ∷ within 2 sheet10 (accepted (stopped 2)) []
-    ∷ row sheet11 (accepted (invalid 0 0)) (0x00 ∷ [])
+    ∷ row sheet9 (gives (valid 7)) []
+    ∷ row sheet10 (gives (invalid 3 2)) (0x00 ∷ 0x00 ∷ 0x00 ∷ 0x09 ∷ 0x00 ∷ [])
+    ∷ within 2 sheet10 (gives (stopped 2)) []
+    ∷ row sheet11 (gives (invalid 0 0)) (0x00 ∷ [])
     ∷ []
 
 pub starred-hold : AllHold starred
@@ -130,8 +131,24 @@ Readings =
     -- The goal is not tested in the run's own state: in a run that ends in state 1 fact 0 is true, and not known.
     × (outcome (small 1 [] top (not-known (fact 0)) end) 9 ≡ record { verdict = valid 0; shown = [] })
     -- A report is accepted though one of the states still possible denies the reply.
-    × (reported (small 1 (probe (fact 0 ∷ negation (fact 0) ∷ []) ∷ []) top (known top) (act 0 end)) [] 0 ≡ accepted (0 ∷ []))
+    × (reported (small 1 (probe (fact 0 ∷ negation (fact 0) ∷ []) ∷ []) top (known top) (act 0 end)) [] 0 ≡ gives (0 ∷ []))
 
 pub readings-hold : Readings
 unfolding outcome reported
 readings-hold = (refl, refl, refl, refl, refl)
+
+-- Overlapping replies, on which 2013's operational semantics and its Definition 4 differ: probe 0 replies "true" or "fact 0", and change 1 makes fact 0 false.
+-- `11 14 8A 0E C0 22 08 21 01 08 00`: invalid, count 2, L 2 by either.
+abbrev pub overlapping : Sheet
+overlapping =
+    small 1 (probe (top ∷ fact 0 ∷ []) ∷ change (equivalence (new-fact 0) bottom) ∷ []) top (known (fact 0)) (act 0 (branch (known (fact 0)) end (act 1 end) end))
+
+pub overlapping-says : reading (0x11 ∷ 0x14 ∷ 0x8A ∷ 0x0E ∷ 0xC0 ∷ 0x22 ∷ 0x08 ∷ 0x21 ∷ 0x01 ∷ 0x08 ∷ 0x00 ∷ []) ≡ gives overlapping
+unfolding reading
+overlapping-says = refl
+
+-- After reply 1 fact 0 is known, so the routine is at its end and the goal holds. By Definition 4 change 1 would be next: "true", reply 0, is known too, and after
+-- reply 0 fact 0 isn't.
+pub overlapping-told : (told overlapping (0 ∷ []) ≡ to-do 1) × (told overlapping (1 ∷ []) ≡ at-end true) × (outcome overlapping 9 ≡ record { verdict = invalid 2 2; shown = 0 ∷ 0 ∷ 0 ∷ 8 ∷ 0 ∷ [] })
+unfolding told outcome
+overlapping-told = (refl, refl, refl)

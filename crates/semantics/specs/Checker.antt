@@ -5,7 +5,7 @@ use mathlib.Core.Bool.{Bool, false, _&&_}
 use lib.Dec.{leb, eqb}
 use lib.ListN.{length}
 use Rattle.format.specs.Syntax.{Sheet}
-use Rattle.format.specs.Format.{Answer, accepted, refused, reading}
+use Rattle.format.specs.Format.{Answer, gives, onAccepted, reading}
 use Rattle.semantics.specs.Runs.{History, entry, isRun}
 use Rattle.semantics.specs.Routine.{routine, follows}
 use Rattle.semantics.specs.Verdict.{fails, longestTrace}
@@ -33,13 +33,7 @@ showsFailing sheet (s ∷ rest) =
 unfoldable pub isTraceLength : ℕ → Bool
 isTraceLength l = eqb (l % 2) 1 && leb l longestTrace
 
--- "A refused sheet gets its number, before the trace is looked at."
-unfoldable pub checkedFor : (shown : List ℕ) → Answer Sheet → Answer Bool
-unfolding isTraceLength showsFailing
-checkedFor shown (refused r) = refused r
-checkedFor shown (accepted sheet) = accepted (isTraceLength (length shown) && showsFailing sheet shown)
-
--- The checker "takes a sheet and a trace and says yes", true, or no, false.
+-- The checker "takes a sheet and a trace and says yes", true, or no, false. "A refused sheet gets its number, before the trace is looked at."
 unfoldable pub checked : (bytes shown : List ℕ) → Answer Bool
-unfolding reading checkedFor
-checked bytes shown = checkedFor shown (reading bytes)
+unfolding onAccepted isTraceLength showsFailing reading
+checked bytes shown = onAccepted (λ sheet. gives (isTraceLength (length shown) && showsFailing sheet shown)) (reading bytes)

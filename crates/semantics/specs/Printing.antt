@@ -1,11 +1,10 @@
 -- The lines that `planverify` prints, as bytes. Document 01, "The trace checker and the command".
-use Prim.Native.Nat.{ℕ, zero, suc, _+_, _*_, _/_, _%_}
+use Prim.Native.Nat.{ℕ, zero, suc, _+_, _/_, _%_}
 use mathlib.Core.List.{List, [], _∷_, _++_}
 use lib.Dec.{ltb}
-use lib.ListN.{replicate, take}
 use Rattle.lists.specs.Lists.{if_then_else_}
-use Rattle.format.specs.Format.{Answer, accepted, refused}
-use Rattle.semantics.specs.Verdict.{Verdict, valid, invalid, stopped, longestTrace, Verified, verified}
+use Rattle.format.specs.Format.{Answer, gives, refused, reading}
+use Rattle.semantics.specs.Verdict.{Verdict, valid, invalid, stopped, outcomeOf, verdictOf, shownBy}
 
 -- The bytes of a space, a line feed, and the digits from "0" and from "a" on.
 abbrev pub space : ℕ
@@ -58,20 +57,20 @@ behindSpace n = space ∷ decimal n
 abbrev pub endLine : List ℕ
 endLine = lineFeed ∷ []
 
--- What an answer prints, with the trace memory after it: "`valid C`, `invalid C L`, `stopped C` or `refused R`", "all decimal; each line ends with
--- a line feed. After `invalid` a second line gives the trace", 1 + 2L bytes.
-unfoldable pub printedFor : Answer Verdict → (memory : List ℕ) → List ℕ
+-- What an answer prints, with the trace that is shown: "`valid C`, `invalid C L`, `stopped C` or `refused R`", "all decimal; each line ends with
+-- a line feed. After `invalid` a second line gives the trace".
+unfoldable pub printedFor : Answer Verdict → (shown : List ℕ) → List ℕ
 unfolding decimal hexadecimal
-printedFor (refused r) memory = refusedWord ++ behindSpace r ++ endLine
-printedFor (accepted (valid c)) memory = validWord ++ behindSpace c ++ endLine
-printedFor (accepted (stopped b)) memory = stoppedWord ++ behindSpace b ++ endLine
-printedFor (accepted (invalid c l)) memory =
-    invalidWord ++ behindSpace c ++ behindSpace l ++ endLine ++ hexadecimal (take (1 + 2 * l) memory) ++ endLine
+printedFor (refused r) shown = refusedWord ++ behindSpace r ++ endLine
+printedFor (gives (valid c)) shown = validWord ++ behindSpace c ++ endLine
+printedFor (gives (stopped b)) shown = stoppedWord ++ behindSpace b ++ endLine
+printedFor (gives (invalid c l)) shown = invalidWord ++ behindSpace c ++ behindSpace l ++ endLine ++ hexadecimal shown ++ endLine
 
--- What `planverify` prints for the bytes of its standard input, "budget 1,000,000". (129 bytes of memory suffice for every trace; the bytes printed are all written, so it
--- makes no difference what they hold before: proofs/MemoryLaws.antt, `printed-whatever`.)
+-- The bytes that are lent for the lines, in which those of every sheet have room.
+abbrev pub mostLines : ℕ
+mostLines = 512
+
+-- What `planverify` prints for the bytes of its standard input, "budget 1,000,000".
 unfoldable pub printed : (bytes : List ℕ) → List ℕ
-unfolding printedFor verified
-printed bytes =
-    let v : Verified = verified bytes 1_000_000 (replicate longestTrace 0) in
-    printedFor (v .answer) (v .memory)
+unfolding printedFor outcomeOf reading verdictOf shownBy
+printed bytes = let o = outcomeOf (reading bytes) 1_000_000 in printedFor (verdictOf o) (shownBy o)

@@ -6,11 +6,10 @@ use mathlib.Core.List.{List, [], _∷_, _++_}
 use mathlib.Core.Bool.{Bool, _&&_}
 use lib.Dec.{ltb, eqb}
 use lib.ListN.{length}
-use Rattle.lists.specs.Lists.{if_then_else_, exists}
+use Rattle.lists.specs.Lists.{if_then_else_, exists, nonempty}
 use Rattle.format.specs.Syntax.{replyCount, Sheet, actionOf}
-use Rattle.format.specs.Truth.{states}
-use Rattle.format.specs.Format.{Answer, accepted, refused}
-use Rattle.semantics.specs.Runs.{Entry, History, entry, replies, step, runs, lastState, holdsAfter, occurs}
+use Rattle.format.specs.Format.{Answer, gives, refused}
+use Rattle.semantics.specs.Runs.{Entry, History, entry, replies, nextStates, possibleStates, holdsAfter, occurs}
 use Rattle.semantics.specs.Routine.{Policy, done, perform, routine, Following}
 
 -- What is left of a policy after a list of replies, and the history that its actions and these replies make. (Past its end a policy takes no reply.)
@@ -38,11 +37,11 @@ unfoldable pub told : Sheet → (rs : List ℕ) → Told
 unfolding toldBy leftAfter historyOf routine
 told sheet rs = toldBy sheet (leftAfter (routine sheet) rs) (historyOf (routine sheet) rs)
 
--- Whether an entry's reply is true in some state still possible. The states still possible are the last states of the runs with the history so far; the reply is
--- looked at after the action's effect on them, which for a probe is none.
+-- Whether an entry's reply is true in some state still possible. The reply is looked at after the action's effect, which for a probe is none: in some state to
+-- which the entry leads from one that was possible before.
 unfoldable pub stillPossible : Sheet → History → Entry → Bool
-unfolding exists runs lastState step states
-stillPossible sheet h e = exists (λ run. exists (λ t. step sheet e (lastState run) t) (states sheet)) (runs sheet h)
+unfolding exists possibleStates nextStates nonempty
+stillPossible sheet h e = exists (λ s. nonempty (nextStates sheet e s)) (possibleStates sheet h)
 
 -- Reporting reply r after the replies rs: "adds one reply", or 32, routine at its end; 33, no such reply (for a change: not 0); 34, the reply is true in no state
 -- still possible. "Tested in that order."
@@ -50,7 +49,7 @@ unfoldable pub reportedTo : Sheet → Policy → History → (rs : List ℕ) (r 
 unfolding replyCount actionOf stillPossible if_then_else_
 reportedTo sheet done h rs r = refused 32
 reportedTo sheet (perform a after) h rs r =
-    if ltb r (replyCount (actionOf sheet a)) then (if stillPossible sheet h (entry a r) then accepted (rs ++ (r ∷ [])) else refused 34) else refused 33
+    if ltb r (replyCount (actionOf sheet a)) then (if stillPossible sheet h (entry a r) then gives (rs ++ (r ∷ [])) else refused 34) else refused 33
 
 unfoldable pub reported : Sheet → (rs : List ℕ) (r : ℕ) → Answer (List ℕ)
 unfolding reportedTo leftAfter historyOf routine
@@ -59,7 +58,7 @@ reported sheet rs r = reportedTo sheet (leftAfter (routine sheet) rs) (historyOf
 -- "A reply is accepted if its report isn't refused": the replies rs are accepted one after the other behind those before them.
 unfoldable pub AcceptedBehind : Sheet → (before rs : List ℕ) → Type 0
 AcceptedBehind sheet before [] = Unit {0}
-AcceptedBehind sheet before (r ∷ rs) = (reported sheet before r ≡ accepted (before ++ (r ∷ []))) × AcceptedBehind sheet (before ++ (r ∷ [])) rs
+AcceptedBehind sheet before (r ∷ rs) = (reported sheet before r ≡ gives (before ++ (r ∷ []))) × AcceptedBehind sheet (before ++ (r ∷ [])) rs
 
 unfoldable pub AcceptedReplies : Sheet → (rs : List ℕ) → Type 0
 AcceptedReplies sheet rs = AcceptedBehind sheet [] rs

@@ -8,8 +8,10 @@ use Rattle.lists.specs.Lists.{if_then_else_}
 use Rattle.format.specs.Syntax.{Program, end, act, branch, Sheet}
 use Rattle.semantics.specs.Runs.{History, extended, IsRun, Holds, holdsAfter}
 
--- A program with its branches decided: nothing is left, or the next action, and what is left after each of its replies. (2013, Definition 4: the standard
--- policy that a program induces.)
+-- A program with its branches decided: nothing is left, or the next action, and what is left after each of its replies, by the reply's number. (2013, "Operational
+-- Semantics": a condition is "evaluated in the current knowledge state", the progression by the feedback that came. 2013's Definition 4, the standard policy that a
+-- program induces, asks behind a probe what is known, "if Kφ1 .. elseif Kφ2 ..": where replies overlap an earlier one can be known too, and it then goes on as
+-- after that one. Cases.antt, `overlapping`, is such a sheet.)
 pub data Policy : Type 0 where
   done : Policy
   perform : (a : ℕ) → (after : ℕ → Policy) → Policy

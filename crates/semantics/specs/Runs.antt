@@ -4,7 +4,8 @@ use mathlib.Core.List.{List, [], _∷_, _++_, map, flatMap}
 use mathlib.Core.Path.{_≡_}
 use mathlib.Core.Logic.{_⊎_}
 use mathlib.Core.Bool.{Bool, true, false, not, _&&_, _||_}
-use Rattle.lists.specs.Lists.{every, keep, nonempty}
+use lib.Dec.{eqb}
+use Rattle.lists.specs.Lists.{every, exists, keep, nonempty}
 use Rattle.format.specs.Syntax.{Objective, Epistemic, known, not-known, all-of, any-of, Sheet, actionOf}
 use Rattle.format.specs.Truth.{isState, states, holds, allowed}
 
@@ -59,6 +60,10 @@ lastState (s ∷ rest) = lastFrom s rest
 unfoldable pub Known : Sheet → History → Objective → Type 0
 Known sheet h f = (run : List ℕ) → IsRun sheet h run → holds f (lastState run) ≡ true
 
+-- A state is still possible after a history if some run with that history ends in it. (2013: it is in the knowledge state.)
+unfoldable pub Possible : Sheet → History → (t : ℕ) → Type 0
+Possible sheet h t = (run : List ℕ) × IsRun sheet h run × (lastState run ≡ t)
+
 -- "And, or, not read as usual."
 unfoldable pub Holds : Sheet → History → Epistemic → Type 0
 unfolding Known
@@ -97,6 +102,16 @@ holdsAfter sheet h (known f) = knownAfter sheet h f
 holdsAfter sheet h (not-known f) = not (knownAfter sheet h f)
 holdsAfter sheet h (all-of f g) = holdsAfter sheet h f && holdsAfter sheet h g
 holdsAfter sheet h (any-of f g) = holdsAfter sheet h f || holdsAfter sheet h g
+
+-- Whether a state is still possible, and the states still possible, each once and in order (proofs/RunLaws.antt, `possible-sorted`). What the method gathers are
+-- these (proofs/ProgressionLaws.antt, `method-states`).
+unfoldable pub isPossible : Sheet → History → (t : ℕ) → Bool
+unfolding exists lastState runs
+isPossible sheet h t = exists (λ run. eqb (lastState run) t) (runs sheet h)
+
+unfoldable pub possibleStates : Sheet → History → List ℕ
+unfolding keep isPossible states
+possibleStates sheet h = keep (isPossible sheet h) (states sheet)
 
 -- Whether some run has a history.
 unfoldable pub occurs : Sheet → History → Bool

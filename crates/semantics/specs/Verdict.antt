@@ -1,5 +1,5 @@
 -- The verifier's answer and the trace memory. Document 01, "The verifier".
-use Prim.Native.Nat.{ℕ, _+_, _*_}
+use Prim.Native.Nat.{ℕ, _+_, _*_, _≤_}
 use mathlib.Core.Path.{_≡_}
 use mathlib.Core.Logic.{_⊎_}
 use mathlib.Core.List.{List, [], _∷_, _++_, flatMap, headD}
@@ -8,7 +8,7 @@ use lib.Dec.{ltb}
 use lib.ListN.{length, drop}
 use Rattle.lists.specs.Lists.{if_then_else_, upFrom, below, keep, upTo, nonempty, Before}
 use Rattle.format.specs.Syntax.{replyCount, Sheet, actionOf}
-use Rattle.format.specs.Format.{Answer, accepted, refused, mostActs, reading}
+use Rattle.format.specs.Format.{Answer, gives, refused, onAccepted, mostActs, reading}
 use Rattle.semantics.specs.Runs.{History, extended, replies, runs, holdsAfter, occurs}
 use Rattle.semantics.specs.Routine.{Policy, done, perform, routine, isFull}
 
@@ -91,6 +91,20 @@ unfolding historyCount failures concluded if_then_else_
 outcome sheet budget =
     if ltb budget (historyCount sheet) then record { verdict = stopped budget; shown = [] } else concluded sheet (historyCount sheet) (failures sheet)
 
+-- The outcome for what was read. A refused sheet gets its number.
+unfoldable pub outcomeOf : Answer Sheet → (budget : ℕ) → Answer Outcome
+unfolding onAccepted outcome
+outcomeOf a budget = onAccepted (λ sheet. gives (outcome sheet budget)) a
+
+-- Its verdict, or the number; and the trace that is shown, none with a refusal.
+unfoldable pub verdictOf : Answer Outcome → Answer Verdict
+unfolding onAccepted
+verdictOf = onAccepted (λ o. gives (o .verdict))
+
+unfoldable pub shownBy : Answer Outcome → List ℕ
+shownBy (gives o) = o .shown
+shownBy (refused r) = []
+
 -- The trace memory after a call: "the failing trace followed by its old bytes, or only its old bytes" (demand 1).
 unfoldable pub written : (shown old : List ℕ) → List ℕ
 written shown old = shown ++ drop (length shown) old
@@ -100,18 +114,20 @@ pub record Verified : Type 0 where
   pub answer : Answer Verdict
   pub memory : List ℕ
 
--- A refused sheet gets its number.
-unfoldable pub judged : (budget : ℕ) (old : List ℕ) → Answer Sheet → Verified
-unfolding outcome written
-judged budget old (refused r) = record { answer = refused r; memory = old }
-judged budget old (accepted sheet) =
-    record { answer = accepted (outcome sheet budget .verdict); memory = written (outcome sheet budget .shown) old }
-
 -- "1 + 2L bytes": the bytes of the longest trace there is, 129 (proofs/AcceptedLaws.antt, `trace-most`).
 abbrev pub longestTrace : ℕ
 longestTrace = 1 + 2 * mostActs
 
--- The verifier "takes a sheet, a budget (32 bits) and the trace memory". 30: "trace memory under 129 bytes (before anything else)".
+-- The trace memory is long enough: 30, "trace memory under 129 bytes", doesn't apply.
+abbrev pub LongEnough : (memory : List ℕ) → Type 0
+LongEnough memory = longestTrace ≤ length memory
+
+-- The sheet that is verified, or why none is. 30: "trace memory under 129 bytes (before anything else)".
+unfoldable pub admitted : (bytes old : List ℕ) → Answer Sheet
+unfolding reading if_then_else_
+admitted bytes old = if ltb (length old) longestTrace then refused 30 else reading bytes
+
+-- The verifier "takes a sheet, a budget (32 bits) and the trace memory".
 unfoldable pub verified : (bytes : List ℕ) (budget : ℕ) (old : List ℕ) → Verified
-unfolding judged reading if_then_else_
-verified bytes budget old = if ltb (length old) longestTrace then record { answer = refused 30; memory = old } else judged budget old (reading bytes)
+unfolding outcomeOf admitted verdictOf shownBy written
+verified bytes budget old = let o = outcomeOf (admitted bytes old) budget in record { answer = verdictOf o; memory = written (shownBy o) old }

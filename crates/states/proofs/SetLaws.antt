@@ -1,6 +1,6 @@
 -- Laws of sets of states: the set that a test gives, the members of a set, and sets made word by word. Assumes nothing.
 use Prim.Native.Nat.{ℕ, zero, suc, _+_, _-_, _*_, _/_, _%_, _^_, _≤_, _<_}
-use mathlib.Core.Path.{_≡_, refl, sym, ap, ap₂, _∙_}
+use mathlib.Core.Path.{_≡_, refl, subst, sym, ap, ap₂, _∙_}
 use mathlib.Core.Bool.{Bool, true, false, not, _&&_}
 use mathlib.Core.List.{[], _∷_, List·Memᴰ}
 use native.Mathlib.Omega.{arith}
@@ -79,7 +79,7 @@ module _ (test : ℕ → Bool) where
   unfolding word
   bit-setOf k h =
       let e : k ≡ 0 * 64 + k = omega arith in
-      rw words-setOf
+      subst (λ (u : States). (i : ℕ) → i < 4 → bit (word u i) k ≡ test (i * 64 + k)) (sym words-setOf)
       (four (λ i. bit (word (four-words (wordOf 64 (λ k. test k)) (wordOf 64 (λ k. test (64 + k))) (wordOf 64 (λ k. test (128 + k))) (wordOf 64 (λ k. test (192 + k)))) i) k ≡ test (i * 64 + k))
       (word-bit 64 (λ k. test k) k h ∙ ap test e)
       (word-bit 64 (λ k. test (64 + k)) k h)

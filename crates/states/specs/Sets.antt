@@ -11,9 +11,17 @@ use Rattle.states.specs.declared.States.{States}
 unfoldable pub bit : (w k : ℕ) → Bool
 bit w k = eqb (w / 2 ^ k % 2) 1
 
+-- The words of a set, and the set that four words are.
+unfoldable pub words : States → List ℕ
+words set = set .w0 ∷ set .w1 ∷ set .w2 ∷ set .w3 ∷ []
+
+unfoldable pub ofWords : List ℕ → States
+ofWords ws = record { w0 = getD ws 0 0; w1 = getD ws 1 0; w2 = getD ws 2 0; w3 = getD ws 3 0 }
+
 -- Word i of a set; there are four.
 unfoldable pub word : States → ℕ → ℕ
-word set i = getD (set .w0 ∷ set .w1 ∷ set .w2 ∷ set .w3 ∷ []) i 0
+unfolding words
+word set i = getD (words set) i 0
 
 -- Whether a state is in a set.
 unfoldable pub member : States → ℕ → Bool

@@ -4,7 +4,7 @@ ghost use mathlib.Core.Bool.{false, not, _&&_, _||_, Bool·beq};
 ghost use Prim.Native.Nat.{_^_};
 ghost use lib.Dec.{eqb, ltb};
 ghost use Rattle.lists.specs.Lists.{nonempty};
-ghost use Rattle.states.specs.Sets.{member, setOf, members, leastOf};
+ghost use Rattle.states.specs.Sets.{words as wordsOf, ofWords, member, setOf, members, leastOf};
 
 // Four words: state s has weight 2^(s mod 64) in word s div 64.
 pub struct States {
@@ -15,6 +15,28 @@ pub struct States {
 }
 
 impl States {
+    // The words of a set.
+    pub const WORDS: usize = 4;
+
+    // The set that four words are.
+    pub fn of_words(words: &[u64; States::WORDS]) -> States
+        ensures { λ r. ⌜ r ≡ ofWords (now (words .entry)) ⌝ }
+    {
+        States {
+            w0: words[0],
+            w1: words[1],
+            w2: words[2],
+            w3: words[3],
+        }
+    }
+
+    // Its words.
+    pub fn words(self) -> [u64; States::WORDS]
+        ensures { λ r. ⌜ r ≡ wordsOf self ⌝ }
+    {
+        [self.w0, self.w1, self.w2, self.w3]
+    }
+
     // Every state, or none.
     pub fn uniform(all: bool) -> States
         ensures { λ r. ⌜ r ≡ setOf (λ s. all) ⌝ }

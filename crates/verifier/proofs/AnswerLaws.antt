@@ -5,31 +5,31 @@ use mathlib.Core.List.{List, [], _∷_, _++_, map, append-assoc, List·Memᴰ, L
 use mathlib.Core.Bool.{Bool, true, false}
 use native.Mathlib.Omega.{arith}
 use lib.Dec.{ltb}
-use borrow.Author.Tests.{lt-ltb}
 use lib.ListN.{length, take, drop, getD, take-append-drop, length-append, length-map}
 use Rattle.lists.specs.Lists.{if_then_else_}
 use Rattle.lists.proofs.ListLaws.{append-past}
 use Rattle.states.specs.declared.States.{States}
 use Rattle.format.specs.Syntax.{Sheet}
-use Rattle.format.specs.Format.{accepted, reading}
+use Rattle.format.specs.Format.{Answer, gives, refused, mostActs, reading}
 use Rattle.reader.specs.Answers.{numberOf}
 use Rattle.reader.specs.declared.refusal.Refusal.{Refusal}
 use Rattle.format.proofs.SheetLaws.{accepted-shape}
 use Rattle.semantics.specs.Runs.{Entry, entry, History}
 use Rattle.semantics.specs.Routine.{Following, Full, Failing}
-use Rattle.semantics.specs.Verdict.{historyCount, failures, trace, stopped, Outcome, leastRun, concluded, outcome, written, Verified, verified}
+use Rattle.semantics.specs.Verdict.{historyCount, failures, trace, stopped, Outcome, leastRun, concluded, outcome, written, longestTrace, LongEnough, admitted, Verified, verified}
 use Rattle.semantics.proofs.RunLaws.{run-occurs}
 use Rattle.semantics.proofs.VerdictLaws.{listed-failing}
-use Rattle.semantics.proofs.MemoryLaws.{verified-accepted, verified-refused}
+use Rattle.semantics.proofs.MemoryLaws.{admitted-long, admitted-short, verified-short, verified-accepted, verified-refused}
 use Rattle.semantics.proofs.AcceptedLaws.{EntriesFit, starts, entries-fit}
 use Rattle.routine.specs.declared.sheet.Prepared.{Prepared}
+use Rattle.routine.specs.Memory.{Sized}
 use Rattle.routine.specs.Tables.{sheetStart, preparedOf, startOf, prepared, sheetHeads, nodeCells, setWords}
 use Rattle.routine.proofs.TableLaws.{Tabled, prepared-tabled, ready-sheet, refused-sheet}
 use Rattle.verifier.specs.declared.search.Searched.{Searched}
 use Rattle.verifier.specs.declared.verdict.Verdict.{Verdict}
 use Rattle.verifier.specs.Search.{Found, passed, failed, over, searched, pathByte, pathBytes, searchedOf, SearchedBy}
 use Rattle.verifier.specs.Least.{pathFrom, leastStates}
-use Rattle.verifier.specs.Answers.{answerOf}
+use Rattle.verifier.specs.Answers.{answerOf, verifiedBy, emptyMemo, cleared}
 use Rattle.verifier.specs.Concluding.{verdictFor, shownEntry, memoryFor}
 use Rattle.verifier.proofs.SearchLaws.{conclusion, search-found}
 use Rattle.verifier.proofs.LeastLaws.{least-is}
@@ -61,7 +61,7 @@ path-shows front (x ∷ h) back at e =
     λ i. first i ∷ tail i
 
 -- What the code says of a search from the start is what was found; where a history failed, the path shows it.
-module _ (before after : List ℕ) (places : length before ≡ 64) (found : Found) where
+module _ (before after : List ℕ) (places : length before ≡ mostActs) (found : Found) where
   pub said-passed : (c : ℕ) → SearchedBy 0 before after (Searched.Passed c) found → found ≡ passed c
   unfolding searchedOf
   said-passed c s = go found (s .answer)
@@ -85,7 +85,7 @@ module _ (before after : List ℕ) (places : length before ≡ 64) (found : Foun
     pub history : History
     pub fails : found ≡ failed c history
     pub long : len ≡ length history
-    pub short : len ≤ 64
+    pub short : len ≤ mostActs
     pub shows : pathFrom after 0 len ≡ map shownEntry history
 
   pub said-failed : (c len : ℕ) → SearchedBy 0 before after (Searched.Failed c len) found → Shows c len
@@ -111,15 +111,15 @@ module _ (before after : List ℕ) (places : length before ≡ 64) (found : Foun
             shows = ap (λ (xs : List ℕ). pathFrom xs 0 len) whole ∙ ap (pathFrom (bytesOf h ++ drop len after) 0) l ∙ path-shows [] h (drop len after) 0 refl;
           }
 
-module _ (before after : List ℕ) (places : length before ≡ 64) (found : Found) (o : Searched) (said : SearchedBy 0 before after o found) where
+module _ (before after : List ℕ) (places : length before ≡ mostActs) (found : Found) (o : Searched) (said : SearchedBy 0 before after o found) where
   failed-shows : (c len : ℕ) → o ≡ Searched.Failed c len → Shows before after places found c len
   failed-shows c len e = said-failed before after places found c len (subst (λ (x : Searched). SearchedBy 0 before after x found) e said)
 
-  pub failed-short : (c len : ℕ) → o ≡ Searched.Failed c len → len ≤ 64
+  pub failed-short : (c len : ℕ) → o ≡ Searched.Failed c len → len ≤ mostActs
   failed-short c len e = failed-shows c len e .short
 
 -- So the code decides as the search found.
-module _ (heads sets : List ℕ) (start : States) (budget : ℕ) (old before after : List ℕ) (places : length before ≡ 64) (found : Found) (o : Searched) (said : SearchedBy 0 before after o found) where
+module _ (heads sets : List ℕ) (start : States) (budget : ℕ) (old before after : List ℕ) (places : length before ≡ mostActs) (found : Found) (o : Searched) (said : SearchedBy 0 before after o found) where
   pub passed-decides : (c : ℕ) → o ≡ Searched.Passed c → (Verdict.Valid c ≡ verdictFor budget found) × (old ≡ memoryFor heads sets start found old)
   unfolding verdictFor memoryFor
   passed-decides c e = rw (said-passed before after places found c (subst (λ (x : Searched). SearchedBy 0 before after x found) e said)) (refl, refl)
@@ -147,13 +147,13 @@ fitting-shown (e ∷ h) f =
     let rest = fitting-shown h (f .2) in
     λ i. record { action = x i; reply = y i } ∷ rest i
 
-module _ (bytes : List ℕ) (sheet : Sheet) (read : reading bytes ≡ accepted sheet) (heads nodes sets : List ℕ) (tabled : Tabled sheet heads nodes sets) (budget : ℕ) where
+module _ (bytes : List ℕ) (sheet : Sheet) (read : reading bytes ≡ gives sheet) (heads nodes sets : List ℕ) (tabled : Tabled sheet heads nodes sets) (budget : ℕ) where
   abbrev found : Found
-  found = searched heads nodes sets budget 64 0 (sheetStart sheet) 0
+  found = searched heads nodes sets budget mostActs 0 (sheetStart sheet) 0
 
   -- The verdict and the trace memory by what the search finds.
   abbrev Decides : Found → Outcome → Type 0
-  Decides x o = (answerOf (verdictFor budget x) ≡ accepted (o .verdict)) × ((old : List ℕ) → memoryFor heads sets (sheetStart sheet) x old ≡ written (o .shown) old)
+  Decides x o = (answerOf (verdictFor budget x) ≡ gives (o .verdict)) × ((old : List ℕ) → memoryFor heads sets (sheetStart sheet) x old ≡ written (o .shown) old)
 
   failing-trace : (h : History) → List·Memᴰ h (failures sheet)
       → trace (map shownEntry h) (leastStates heads sets (sheetStart sheet) (map shownEntry h)) ≡ trace h (leastRun sheet h)
@@ -182,35 +182,59 @@ module _ (bytes : List ℕ) (sheet : Sheet) (read : reading bytes ≡ accepted s
       go true = stopped-decides
       go false = concluded-decides (historyCount sheet) (failures sheet) refl
 
+-- What the contract says of the answer and of the trace memory.
+pub parts : (r : Verdict) (memory : List ℕ) (v : Verified) → verifiedBy r memory ≡ v → (answerOf r ≡ v .answer) × (memory ≡ v .memory)
+unfolding verifiedBy
+parts r memory v e = (ap (λ (x : Verified). x .answer) e, ap (λ (x : Verified). x .memory) e)
+
 -- The whole answer, from the answer of `prepare`.
-module _ (bytes : List ℕ) (budget : ℕ) (old : List ℕ) where
-  -- The answer and the trace memory are those of the definition.
-  abbrev Answered : Verdict → (memory : List ℕ) → Type 0
-  Answered r memory = (answerOf r ≡ verified bytes budget old .answer) × (memory ≡ verified bytes budget old .memory)
+module _ (bytes : List ℕ) (budget : ℕ) (old heads nodes sets memo : List ℕ) where
+  -- The tables and the memo for a sheet or a refusal.
+  abbrev Left : Answer Sheet → (heads′ nodes′ sets′ memo′ : List ℕ) → Type 0
+  Left a heads′ nodes′ sets′ memo′ = (heads′ ≡ prepared sheetHeads a heads) × (nodes′ ≡ prepared nodeCells a nodes) × (sets′ ≡ prepared setWords a sets) × (memo′ ≡ cleared a memo)
 
-  pub short-answered : length old < 129 → Answered Verdict.ShortMemory old
-  unfolding verified answerOf if_then_else_
-  short-answered l = rw (lt-ltb (length old) 129 l) (refl, refl)
+  -- The answer and the trace memory are those of the definition, where the tables have their lengths; and so are the tables and the memo.
+  abbrev Answered : Verdict → (memory heads′ nodes′ sets′ memo′ : List ℕ) → Type 0
+  Answered r memory heads′ nodes′ sets′ memo′ =
+      (Sized heads nodes sets → verifiedBy r memory ≡ verified bytes budget old)
+      × (heads′ ≡ prepared sheetHeads (admitted bytes old) heads)
+      × (nodes′ ≡ prepared nodeCells (admitted bytes old) nodes)
+      × (sets′ ≡ prepared setWords (admitted bytes old) sets)
+      × (memo′ ≡ cleared (admitted bytes old) memo)
 
-  module _ (enough : 129 ≤ length old) where
-    pub refused-answered : (p : Prepared) (r : Refusal) → p ≡ Prepared.Refused r → preparedOf p ≡ startOf (reading bytes) → Answered (Verdict.Refused r) old
-    unfolding answerOf
-    refused-answered p r e k =
-        let v = verified-refused bytes (numberOf r) (refused-sheet (reading bytes) r (sym (ap preparedOf e) ∙ k)) budget old enough in
-        (sym (ap (λ (x : Verified). x .answer) v), sym (ap (λ (x : Verified). x .memory) v))
+  answered : (a : Answer Sheet) → admitted bytes old ≡ a → (r : Verdict) (memory heads′ nodes′ sets′ memo′ : List ℕ)
+      → (Sized heads nodes sets → verifiedBy r memory ≡ verified bytes budget old) → Left a heads′ nodes′ sets′ memo′ → Answered r memory heads′ nodes′ sets′ memo′
+  answered a e r memory heads′ nodes′ sets′ memo′ v k =
+      let m = subst (λ (b : Answer Sheet). Left b heads′ nodes′ sets′ memo′) (sym e) k in
+      (v, m .0, m .1, m .2, m .3)
 
-    pub ready-answered : (p : Prepared) (start : States) → p ≡ Prepared.Ready start → preparedOf p ≡ startOf (reading bytes)
-        → (heads nodes sets heads′ nodes′ sets′ : List ℕ) → length heads ≡ 93 → length nodes ≡ 8192 → length sets ≡ 40960
-        → heads′ ≡ prepared sheetHeads (reading bytes) heads → nodes′ ≡ prepared nodeCells (reading bytes) nodes → sets′ ≡ prepared setWords (reading bytes) sets
-        → (r : Verdict) (memory : List ℕ) → r ≡ verdictFor budget (searched heads′ nodes′ sets′ budget 64 0 start 0) → memory ≡ memoryFor heads′ sets′ start (searched heads′ nodes′ sets′ budget 64 0 start 0) old
-        → Answered r memory
-    ready-answered p start e k heads nodes sets heads′ nodes′ sets′ lh ln ls eh en es r memory er em =
-        let q = ready-sheet (reading bytes) start (sym (ap preparedOf e) ∙ k) in
+  pub short-answered : length old < longestTrace → Answered Verdict.ShortMemory old heads nodes sets memo
+  unfolding verifiedBy answerOf prepared cleared
+  short-answered l = answered (refused 30) (admitted-short bytes old l) Verdict.ShortMemory old heads nodes sets memo (λ z. sym (verified-short bytes budget old l)) (refl, refl, refl, refl)
+
+  module _ (enough : LongEnough old) (heads′ nodes′ sets′ : List ℕ) (p : Prepared)
+      (tables : (preparedOf p ≡ startOf (reading bytes)) × (heads′ ≡ prepared sheetHeads (reading bytes) heads) × (nodes′ ≡ prepared nodeCells (reading bytes) nodes) × (sets′ ≡ prepared setWords (reading bytes) sets)) where
+    pub refused-answered : (r : Refusal) → p ≡ Prepared.Refused r → Answered (Verdict.Refused r) old heads′ nodes′ sets′ memo
+    unfolding verifiedBy answerOf cleared
+    refused-answered r e =
+        let q = refused-sheet (reading bytes) r (sym (ap preparedOf e) ∙ tables .0) in
+        answered (reading bytes) (admitted-long bytes old enough) (Verdict.Refused r) old heads′ nodes′ sets′ memo
+        (λ z. sym (verified-refused bytes (numberOf r) q budget old enough)) (tables .1, tables .2, tables .3, ap (λ (a : Answer Sheet). cleared a memo) (sym q))
+
+    pub ready-answered : (start : States) → p ≡ Prepared.Ready start → (r : Verdict) (memory memo′ : List ℕ)
+        → (r ≡ verdictFor budget (searched heads′ nodes′ sets′ budget mostActs 0 start 0)) × (memory ≡ memoryFor heads′ sets′ start (searched heads′ nodes′ sets′ budget mostActs 0 start 0) old) × (memo′ ≡ emptyMemo)
+        → Answered r memory heads′ nodes′ sets′ memo′
+    unfolding verifiedBy cleared
+    ready-answered start e r memory memo′ k =
+        let q = ready-sheet (reading bytes) start (sym (ap preparedOf e) ∙ tables .0) in
         let sheet = q .0 in
-        let tabled : Tabled sheet heads′ nodes′ sets′ = rw (eh, en, es) (prepared-tabled bytes sheet (q .1) heads nodes sets lh ln ls) in
+        let at : (States → Found) = λ s. searched heads′ nodes′ sets′ budget mostActs 0 s 0 in
+        let verdict : (Sized heads nodes sets → verifiedBy r memory ≡ verified bytes budget old) = λ z.
+        let tabled : Tabled sheet heads′ nodes′ sets′ = rw (tables .1, tables .2, tables .3) (prepared-tabled bytes sheet (q .1) heads nodes sets z) in
         let d = decides bytes sheet (q .1) heads′ nodes′ sets′ tabled budget in
-        let v = verified-accepted bytes sheet (q .1) budget old enough in
-        let at : (States → Found) = λ s. searched heads′ nodes′ sets′ budget 64 0 s 0 in (
-          ap answerOf (er ∙ ap (λ (s : States). verdictFor budget (at s)) (q .2)) ∙ d .0 ∙ sym (ap (λ (x : Verified). x .answer) v),
-          em ∙ ap (λ (s : States). memoryFor heads′ sets′ s (at s) old) (q .2) ∙ d .1 old ∙ sym (ap (λ (x : Verified). x .memory) v),
-        )
+        let x = ap answerOf (k .0 ∙ ap (λ (s : States). verdictFor budget (at s)) (q .2)) ∙ d .0 in
+        let y = k .1 ∙ ap (λ (s : States). memoryFor heads′ sets′ s (at s) old) (q .2) ∙ d .1 old in
+        let same : verifiedBy r memory ≡ record { answer = gives (outcome sheet budget .verdict); memory = written (outcome sheet budget .shown) old } = λ i. record { answer = x i; memory = y i } in
+        same ∙ sym (verified-accepted bytes sheet (q .1) budget old enough) in
+        answered (reading bytes) (admitted-long bytes old enough) r memory heads′ nodes′ sets′ memo′ verdict
+        (tables .1, tables .2, tables .3, k .2 ∙ ap (λ (a : Answer Sheet). cleared a memo) (sym (q .1)))

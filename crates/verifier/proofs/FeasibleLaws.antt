@@ -13,12 +13,12 @@ use borrow.Author.Tests.{lt-ltb, le-ltb, eq-eqb, ne-eqb, ltb-true, ltb-false, eq
 use Rattle.lists.specs.Lists.{below, exists, nonempty}
 use Rattle.lists.proofs.ListLaws.{or-none, same-test, both-true, and-both, exists-same, exists-mem, mem-exists, upFrom-mem, mem-upFrom, nonempty-keep, exists-none}
 use Rattle.states.specs.declared.States.{States}
-use Rattle.states.specs.Sets.{member, setOf, members, leastOf}
+use Rattle.states.specs.Sets.{words, member, setOf, members, leastOf}
 use Rattle.states.proofs.SetLaws.{member-setOf, set-cong, members-setOf}
 use Rattle.semantics.specs.Runs.{Entry, entry, History}
 use Rattle.semantics.specs.Verdict.{trace, traceFrom, written}
 use Rattle.routine.specs.declared.memory.Head.{Head}
-use Rattle.routine.specs.Memory.{write, words, setAt, headAt}
+use Rattle.routine.specs.Memory.{write, setAt, headAt}
 use Rattle.routine.proofs.MemoryLaws.{set-in}
 use Rattle.routine.proofs.WriteLaws.{write-length, write-elsewhere, write-back, words-four}
 use Rattle.progression.specs.Machine.{gathered, effect, stepped}

@@ -7,14 +7,14 @@ use mathlib.Core.Bool.{Bool, true, false}
 use native.Mathlib.Decide.{ℕ-discrete}
 use native.Mathlib.Omega.{arith}
 use lib.Dec.{eqb, ltb}
-use lib.ListN.{length, getD, replicate, length-replicate, getD-replicate}
+use lib.ListN.{length, getD, length-replicate, getD-replicate}
 use borrow.Author.Tests.{eqb-true, eqb-false, le-ltb, lt-ltb, ltb-true, ltb-false, leb-true}
 use Rattle.lists.specs.Lists.{if_then_else_, below, nonempty}
 use Rattle.lists.proofs.ListLaws.{both-true}
 use Rattle.states.specs.declared.States.{States}
-use Rattle.states.specs.Sets.{members}
+use Rattle.states.specs.Sets.{words, members}
 use Rattle.semantics.specs.Runs.{Entry, entry}
-use Rattle.routine.specs.Memory.{write, words, headAt}
+use Rattle.routine.specs.Memory.{write, headAt}
 use Rattle.routine.proofs.WriteLaws.{write-length, write-elsewhere, write-back}
 use Rattle.progression.specs.declared.place.Place.{Place}
 use Rattle.progression.specs.Machine.{settled, stepped}
@@ -22,7 +22,8 @@ use Rattle.verifier.specs.declared.memo.Slot.{Slot}
 use Rattle.verifier.specs.declared.memo.Recalled.{Recalled}
 use Rattle.verifier.specs.declared.search.Searched.{Searched}
 use Rattle.verifier.specs.Search.{Found, passed, failed, over, behind, andThen, eachReply, atPlace, visit, answered, searched, searchedOf, SearchedBy}
-use Rattle.verifier.specs.Memo.{slotMost, slotSize, slotAt, slotWords, serves, recalled, reaching, SlotSound, Sound}
+use Rattle.verifier.specs.Answers.{slotMost, slotSize, emptyMemo}
+use Rattle.verifier.specs.Memo.{slotAt, slotWords, serves, recalled, reaching, SlotSound, Sound}
 use Rattle.verifier.proofs.PathLaws.{visit-by, repliesFrom, replies-all, searched-passed, searched-answered, here-passed, here-over}
 
 module _ (budget : ℕ) where
@@ -279,11 +280,11 @@ module _ (budget n : ℕ) where
 
 module _ (heads nodes sets : List ℕ) (budget : ℕ) where
   -- A memory of zeros remembers nothing.
-  pub zeros-sound : Sound heads nodes sets budget (replicate {A = ℕ} (slotSize * slotMost) 0)
+  pub empty-sound : Sound heads nodes sets budget emptyMemo
   unfolding SlotSound slotAt
-  zeros-sound = record {
+  empty-sound = record {
     size = length-replicate {A = ℕ} (slotSize * slotMost) 0;
-    slots = λ j l p left d h m. let z : getD (replicate {A = ℕ} (slotSize * slotMost) 0) (slotSize * j) 0 ≡ 0 = getD-replicate {A = ℕ} (slotSize * slotMost) (slotSize * j) 0 0 (omega arith) in absurd (omega (arith, p, z));
+    slots = λ j l p left d h m. let z : getD emptyMemo (slotSize * j) 0 ≡ 0 = getD-replicate {A = ℕ} (slotSize * slotMost) (slotSize * j) 0 0 (omega arith) in absurd (omega (arith, p, z));
   }
 
   -- Where what a slot says is so, it may be written.

@@ -13,7 +13,7 @@ use Rattle.lists.proofs.OrderLaws.{upTo-mem}
 use Rattle.states.specs.declared.States.{States}
 use Rattle.states.specs.Sets.{members}
 use Rattle.format.specs.Syntax.{replyCount, Sheet, actionOf}
-use Rattle.format.specs.Format.{accepted, reading}
+use Rattle.format.specs.Format.{gives, reading}
 use Rattle.semantics.specs.Runs.{Entry, entry, History, extended, replies, holdsAfter, occurs}
 use Rattle.semantics.specs.Routine.{Policy, done, perform, routine, isFull}
 use Rattle.semantics.specs.Verdict.{historiesFrom, histories, HistoryBefore, fails, counted, historyCount, failures}
@@ -171,7 +171,7 @@ module _ (sheet : Sheet) (budget : ℕ) where
   unfolding fails
   fails-left h p e = ap (λ (b : Bool). b && not (holdsAfter sheet h (sheet .goal))) e
 
-  module _ (heads nodes sets : List ℕ) (bytes : List ℕ) (read : reading bytes ≡ accepted sheet) (tabled : Tabled sheet heads nodes sets) where
+  module _ (heads nodes sets : List ℕ) (bytes : List ℕ) (read : reading bytes ≡ gives sheet) (tabled : Tabled sheet heads nodes sets) where
     -- The search from a place reached by a history counts through the histories from there on, the place's own being counted.
     abbrev Searches : (left : ℕ) → Type 0
     Searches left = (h : History) (at : ℕ) (set : States) → Reached sheet heads nodes sets h at set → length h + left ≡ 64 → (c : ℕ)

@@ -1,14 +1,38 @@
 -- What the verifier's answers mean: document 01's numbers and values.
-use Rattle.format.specs.Format.{Answer, accepted, refused}
+use Prim.Native.Nat.{ℕ, _*_}
+use mathlib.Core.List.{List}
+use lib.ListN.{replicate}
+use Rattle.format.specs.Syntax.{Sheet}
+use Rattle.format.specs.Format.{Answer, gives, refused}
 use Rattle.reader.specs.Answers.{numberOf}
-use Rattle.semantics.specs.Verdict.{Verdict as Meant, valid, invalid, stopped}
+use Rattle.semantics.specs.Verdict.{Verdict as Meant, valid, invalid, stopped, Verified}
 use Rattle.verifier.specs.declared.verdict.Verdict.{Verdict}
 
 -- "valid" with the count, "invalid" with the count and the length, "stopped" with the budget; 30 for "trace memory under 129 bytes"; or the sheet's number.
 unfoldable pub answerOf : Verdict → Answer Meant
 unfolding numberOf
-answerOf (Verdict.Valid c) = accepted (valid c)
-answerOf (Verdict.Invalid c l) = accepted (invalid c l)
-answerOf (Verdict.Stopped b) = accepted (stopped b)
+answerOf (Verdict.Valid c) = gives (valid c)
+answerOf (Verdict.Invalid c l) = gives (invalid c l)
+answerOf (Verdict.Stopped b) = gives (stopped b)
 answerOf Verdict.ShortMemory = refused 30
 answerOf (Verdict.Refused r) = refused (numberOf r)
+
+-- The same with the trace memory after the call.
+unfoldable pub verifiedBy : Verdict → (memory : List ℕ) → Verified
+unfolding answerOf
+verifiedBy r memory = record { answer = answerOf r; memory = memory }
+
+-- The memory in which the search remembers: its slots, the words of each, and the memory that tells nothing.
+abbrev pub slotMost : ℕ
+slotMost = 256
+
+abbrev pub slotSize : ℕ
+slotSize = 8
+
+abbrev pub emptyMemo : List ℕ
+emptyMemo = replicate (slotSize * slotMost) 0
+
+-- That memory after a call: all of it is zeros, whatever it held before. A refusal leaves it as it was.
+unfoldable pub cleared : Answer Sheet → (memo : List ℕ) → List ℕ
+cleared (gives sheet) memo = emptyMemo
+cleared (refused r) memo = memo

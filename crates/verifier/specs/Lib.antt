@@ -1,5 +1,5 @@
+pub mod Answers
 pub mod Search
 pub mod Memo
 pub mod Least
-pub mod Answers
 pub mod Concluding

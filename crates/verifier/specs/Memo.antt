@@ -6,22 +6,16 @@ use mathlib.Core.List.{List, [], _∷_}
 use mathlib.Core.Bool.{Bool, _&&_}
 use lib.Dec.{eqb, leb, ltb}
 use lib.ListN.{length, getD}
+use Rattle.states.specs.Sets.{words}
 use Rattle.format.specs.Format.{mostActs}
 use Rattle.lists.specs.Lists.{if_then_else_}
 use Rattle.states.specs.declared.States.{States}
 use Rattle.format.specs.Syntax.{fact, negation, Epistemic, known, any-of}
-use Rattle.routine.specs.Memory.{words}
 use Rattle.routine.specs.Tables.{sheetHeads, nodeCells, setWords, low}
 use Rattle.verifier.specs.declared.memo.Slot.{Slot}
 use Rattle.verifier.specs.declared.memo.Recalled.{Recalled}
+use Rattle.verifier.specs.Answers.{slotMost, slotSize}
 use Rattle.verifier.specs.Search.{Found, passed, over, answered, searched, asked}
-
--- The slots of a memory, and the words of a slot.
-abbrev pub slotMost : ℕ
-slotMost = 256
-
-abbrev pub slotSize : ℕ
-slotSize = 8
 
 -- Slot j of a memory.
 unfoldable pub slotAt : (memory : List ℕ) (j : ℕ) → Slot
@@ -69,37 +63,37 @@ module _ (heads nodes sets : List ℕ) (budget : ℕ) where
     pub slots : (j : ℕ) → j < slotMost → SlotSound (slotAt memory j)
 
 -- Examples, evaluated.
--- Two histories behind an action 0 whose replies lead on to node 1, after three actions, states 0 and 1 being possible.
+-- Two histories behind an action 0 whose replies lead on to node 5, after three actions, states 0 and 1 being possible.
 slot : Slot
-slot = record { onward = 1; action = 0; depth = 3; behind = 2; set = low 3 }
+slot = record { onward = 5; action = 0; depth = 3; behind = 2; set = low 3 }
 
 -- They are recalled after three actions, and after fewer: there is more room then.
-recalled-here : recalled slot (low 3) 1 0 3 ≡ Recalled.Passed 2
+recalled-here : recalled slot (low 3) 5 0 3 ≡ Recalled.Passed 2
 unfolding slot recalled
 recalled-here = refl
 
-recalled-earlier : recalled slot (low 3) 1 0 1 ≡ Recalled.Passed 2
+recalled-earlier : recalled slot (low 3) 5 0 1 ≡ Recalled.Passed 2
 unfolding slot recalled
 recalled-earlier = refl
 
 -- After more actions there is less room; another set, node or action is another place; and an empty slot tells nothing.
-not-later : recalled slot (low 3) 1 0 4 ≡ Recalled.Nothing
+not-later : recalled slot (low 3) 5 0 4 ≡ Recalled.Nothing
 unfolding slot recalled
 not-later = refl
 
-not-another-set : recalled slot (low 2) 1 0 3 ≡ Recalled.Nothing
+not-another-set : recalled slot (low 2) 5 0 3 ≡ Recalled.Nothing
 unfolding slot recalled
 not-another-set = refl
 
-not-another-node : recalled slot (low 3) 2 0 3 ≡ Recalled.Nothing
+not-another-node : recalled slot (low 3) 6 0 3 ≡ Recalled.Nothing
 unfolding slot recalled
 not-another-node = refl
 
-not-another-action : recalled slot (low 3) 1 1 3 ≡ Recalled.Nothing
+not-another-action : recalled slot (low 3) 5 1 3 ≡ Recalled.Nothing
 unfolding slot recalled
 not-another-action = refl
 
-not-empty : recalled (slotAt [] 0) (low 0) 1 0 0 ≡ Recalled.Nothing
+not-empty : recalled (slotAt [] 0) (low 0) 5 0 0 ≡ Recalled.Nothing
 unfolding recalled slotAt
 not-empty = refl
 
@@ -108,7 +102,7 @@ slot-read : slotAt (slotWords slot) 0 ≡ slot
 unfolding slot slotAt slotWords
 slot-read = refl
 
--- So it is on the sheet on which action 0 asks for the one fact, the goal being that it is known or its negation is: from a count of 4 on, both replies are counted, and
+-- So it is on the sheet on which action 0 asks for the one fact, the goal being that it is known or its negation is (node 4, behind the jump and the goal's three nodes; the end is node 5): from a count of 4 on, both replies are counted, and
 -- pass; with a budget of 5 that exceeds it.
 telling : Epistemic
 telling = any-of (known (fact 0)) (known (negation (fact 0)))

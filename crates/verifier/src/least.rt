@@ -1,8 +1,8 @@
 // The least run with a history, over the routine's tables: backward the states from which the rest of the history can be
 // gone, then forward the least of them. (The least next state alone may be one from which it can't.)
-use crate::limits::ACTIONS;
 use crate::limits::FEASIBLE_WORDS;
 use progression::step;
+use reader::ACTION_NODES;
 use routine::HEAD_CELLS;
 use routine::SET_WORDS;
 use routine::head_at;
@@ -13,11 +13,11 @@ ghost use mathlib.Core.Bool.{_&&_};
 ghost use Prim.Native.Nat.{_+_, _*_, _/_, _%_, _<_, _≤_};
 ghost use lib.ListN.{length};
 ghost use Rattle.lists.specs.Lists.{exists, below};
-ghost use Rattle.states.specs.Sets.{member, setOf};
+ghost use Rattle.states.specs.Sets.{words, member, setOf};
 ghost use Rattle.semantics.specs.Runs.{entry};
 ghost use Rattle.format.specs.Format.{mostActs};
-ghost use Rattle.semantics.specs.Verdict.{longestTrace, trace, written};
-ghost use Rattle.routine.specs.Memory.{write, words, setAt};
+ghost use Rattle.semantics.specs.Verdict.{trace, written};
+ghost use Rattle.routine.specs.Memory.{write, setAt};
 ghost use Rattle.verifier.specs.Least.{preimage as preimageOf, pathFrom, leastStates, FeasibleFrom};
 
 // The states s for which set `first` + s has a state of a set.
@@ -76,8 +76,8 @@ fn put_feasible(feasible: &mut [u64; FEASIBLE_WORDS], k: usize, set: States)
 {
     feasible[4 * k] = set.w0;
     feasible[4 * k + 1] = set.w1;
-    feasible[4 * k + 1 + 1] = set.w2;
-    feasible[4 * k + 1 + 1 + 1] = set.w3;
+    feasible[4 * k + 2] = set.w2;
+    feasible[4 * k + 3] = set.w3;
 }
 
 // The action and the reply of a path's byte. (A byte that is read from an array has its bound here, as a parameter.)
@@ -97,7 +97,7 @@ fn reply_of(b: u8) -> usize
 fn fill_feasible(
     heads: &[u16; HEAD_CELLS],
     sets: &[u64; SET_WORDS],
-    path: &[u8; ACTIONS],
+    path: &[u8; ACTION_NODES],
     len: usize,
     feasible: &mut [u64; FEASIBLE_WORDS],
 )
@@ -119,13 +119,13 @@ fn fill_feasible(
 fn least_along(
     heads: &[u16; HEAD_CELLS],
     sets: &[u64; SET_WORDS],
-    path: &[u8; ACTIONS],
+    path: &[u8; ACTION_NODES],
     len: usize,
     feasible: &[u64; FEASIBLE_WORDS],
     start: States,
     shown: &mut [u8],
 )
-    requires { ⌜ (len ≤ mostActs) × (longestTrace ≤ length (now shown)) × FeasibleFrom (now heads) (now sets) (now path) len 0 (now feasible) ⌝ }
+    requires { ⌜ (len ≤ mostActs) × (1 + 2 * len ≤ length (now shown)) × FeasibleFrom (now heads) (now sets) (now path) len 0 (now feasible) ⌝ }
     ensures { λ r. ⌜ now (shown .exit) ≡ written (trace (pathFrom (now (path .entry)) 0 len) (leastStates (now (heads .entry)) (now (sets .entry)) start (pathFrom (now (path .entry)) 0 len))) (now (shown .entry)) ⌝ }
 {
     let mut s = start.intersect(feasible_at(feasible, 0)).least();
@@ -143,12 +143,12 @@ fn least_along(
 pub(crate) fn show(
     heads: &[u16; HEAD_CELLS],
     sets: &[u64; SET_WORDS],
-    path: &[u8; ACTIONS],
+    path: &[u8; ACTION_NODES],
     len: usize,
     start: States,
     shown: &mut [u8],
 )
-    requires { ⌜ (len ≤ mostActs) × (longestTrace ≤ length (now shown)) ⌝ }
+    requires { ⌜ (len ≤ mostActs) × (1 + 2 * len ≤ length (now shown)) ⌝ }
     ensures { λ r. ⌜ now (shown .exit) ≡ written (trace (pathFrom (now (path .entry)) 0 len) (leastStates (now (heads .entry)) (now (sets .entry)) start (pathFrom (now (path .entry)) 0 len))) (now (shown .entry)) ⌝ }
 {
     let mut feasible = [0u64; FEASIBLE_WORDS];

@@ -5,5 +5,8 @@ mod memo;
 mod search;
 mod verdict;
 
+pub use limits::MEMO_WORDS;
 pub use verdict::Verdict;
+pub use verdict::number;
 pub use verdict::verify;
+pub use verdict::verify_in;

@@ -1,14 +1,11 @@
 // The sizes of the verifier's memory.
 
-// The most actions of a run.
-pub(crate) const ACTIONS: usize = reader::ACTION_NODES;
-
 // The words of the feasible sets: one set before the first action and one after each.
-pub(crate) const FEASIBLE_WORDS: usize = 4 * (ACTIONS + 1);
+pub(crate) const FEASIBLE_WORDS: usize = states::States::WORDS * (reader::ACTION_NODES + 1);
 
 // What the search remembers: its slots, the words of each, and all of them.
-pub(crate) const SLOTS: u64 = 256;
+pub(crate) const SLOTS: usize = 256;
 
 pub(crate) const SLOT_WORDS: usize = 8;
 
-pub(crate) const MEMO_WORDS: usize = 2048;
+pub const MEMO_WORDS: usize = SLOT_WORDS * SLOTS;

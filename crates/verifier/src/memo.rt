@@ -8,7 +8,8 @@ use std::num::wrapping_add_u64;
 ghost use mathlib.Core.Path.{_≡_};
 ghost use Prim.Native.Nat.{_*_, _<_};
 ghost use Rattle.routine.specs.Memory.{write};
-ghost use Rattle.verifier.specs.Memo.{slotMost, slotSize, slotAt, slotWords, recalled};
+ghost use Rattle.verifier.specs.Answers.{slotMost, slotSize};
+ghost use Rattle.verifier.specs.Memo.{slotAt, slotWords, recalled};
 
 // After `depth` actions, the states of a set being possible, an action comes whose replies lead on to node `onward`:
 // `behind` histories follow, and none of them fails. (`onward` is 0 in an empty slot alone.)
@@ -44,7 +45,7 @@ pub(crate) fn slot_number(set: States, onward: usize) -> usize
     let y = wrapping_add_u64(joined(set.w2, set.w3), onward as u64);
     let a = (x % HALF * 0x9e37_79b1) ^ (x / HALF * 0x85eb_ca6b);
     let b = (y % HALF * 0xc2b2_ae35) ^ (y / HALF * 0x27d4_eb2f);
-    ((a ^ b) / 0x100_0000 % SLOTS) as usize
+    (a ^ b) as usize / 0x100_0000 % SLOTS
 }
 
 // Slot j.

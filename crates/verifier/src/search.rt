@@ -1,5 +1,4 @@
 // The search through the histories of runs that follow the routine, over its tables.
-use crate::limits::ACTIONS;
 use crate::limits::MEMO_WORDS;
 use crate::memo::Recalled;
 use crate::memo::Slot;
@@ -9,6 +8,7 @@ use crate::memo::slot_number;
 use progression::Place;
 use progression::settle;
 use progression::step;
+use reader::ACTION_NODES;
 use routine::HEAD_CELLS;
 use routine::NODE_CELLS;
 use routine::SET_WORDS;
@@ -50,12 +50,14 @@ fn count_passed(count: u32, more: u64, budget: u32) -> Searched
 
 // Searches the histories that go on from node `at`, after one of `depth` actions whose bytes the path holds and after
 // which the states of a set are possible; `count` have been counted so far, that one among them. Where what follows was
-// searched before, with the same states possible, and passed, its number is recalled and counted.
+// searched before, with the same states possible, and passed, its number is recalled and counted. From the start of an
+// accepted sheet the count is the definition's, `historyCount` (`search-found` of proofs/SearchLaws.antt): a history is
+// counted where a reply is possible, `counted + 1` below, and many at once where they are recalled.
 pub(crate) fn search(
     heads: &[u16; HEAD_CELLS],
     nodes: &[u16; NODE_CELLS],
     sets: &[u64; SET_WORDS],
-    path: &mut [u8; ACTIONS],
+    path: &mut [u8; ACTION_NODES],
     memo: &mut [u64; MEMO_WORDS],
     set: States,
     at: usize,
@@ -74,7 +76,7 @@ pub(crate) fn search(
             Searched::Failed(count, depth)
         }
         Place::Act(node, action) => {
-            if ACTIONS <= depth {
+            if ACTION_NODES <= depth {
                 return Searched::Over;
             }
             let onward = node + 1;

@@ -8,10 +8,13 @@ pub mod straight;
 
 /// The numbers of the heads of a sheet's actions, three each.
 pub const HEAD_CELLS: usize = 93;
-/// The numbers of the nodes of its program and its goal, four each.
-pub const NODE_CELLS: usize = 8192;
+/// The numbers of the nodes of its goal and its program, three each.
+pub const NODE_CELLS: usize = 12_288;
 /// The words of its sets of states, four each.
 pub const SET_WORDS: usize = 40_960;
+
+/// The words in which the search remembers.
+pub const MEMO_WORDS: usize = 2048;
 
 /// The most bytes that the printed lines take.
 pub const LINES: usize = 512;
@@ -59,8 +62,31 @@ extern "C" {
         verdict: &mut [u64; 3],
     ) -> u8;
 
+    fn recovery_verify_in(
+        bytes: *const u8,
+        length: usize,
+        budget: u32,
+        trace: *mut u8,
+        trace_length: usize,
+        verdict: &mut [u64; 3],
+        heads: &mut [u16; HEAD_CELLS],
+        nodes: &mut [u16; NODE_CELLS],
+        sets: &mut [u64; SET_WORDS],
+        memo: &mut [u64; MEMO_WORDS],
+    ) -> u8;
+
     fn recovery_check(bytes: *const u8, length: usize, trace: *const u8, trace_length: usize)
         -> u8;
+
+    fn recovery_check_in(
+        bytes: *const u8,
+        length: usize,
+        trace: *const u8,
+        trace_length: usize,
+        heads: &mut [u16; HEAD_CELLS],
+        nodes: &mut [u16; NODE_CELLS],
+        sets: &mut [u64; SET_WORDS],
+    ) -> u8;
 
     fn recovery_print(bytes: *const u8, length: usize, out: &mut [u8; LINES]) -> usize;
 
@@ -72,6 +98,17 @@ extern "C" {
         lengths: &mut [usize; 2],
     ) -> u8;
 
+    fn recovery_load_in(
+        bytes: *const u8,
+        length: usize,
+        sheet: &mut [u8; SHEET],
+        replies: &mut [u8; REPLIES],
+        lengths: &mut [usize; 2],
+        heads: &mut [u16; HEAD_CELLS],
+        nodes: &mut [u16; NODE_CELLS],
+        sets: &mut [u64; SET_WORDS],
+    ) -> u8;
+
     fn recovery_next(
         sheet: &[u8; SHEET],
         replies: &[u8; REPLIES],
@@ -79,11 +116,31 @@ extern "C" {
         told: &mut [usize; 2],
     ) -> u8;
 
+    fn recovery_next_in(
+        sheet: &[u8; SHEET],
+        replies: &[u8; REPLIES],
+        lengths: &[usize; 2],
+        told: &mut [usize; 2],
+        heads: &mut [u16; HEAD_CELLS],
+        nodes: &mut [u16; NODE_CELLS],
+        sets: &mut [u64; SET_WORDS],
+    ) -> u8;
+
     fn recovery_report(
         sheet: &[u8; SHEET],
         replies: &mut [u8; REPLIES],
         lengths: &mut [usize; 2],
         reply: u8,
+    ) -> u8;
+
+    fn recovery_report_in(
+        sheet: &[u8; SHEET],
+        replies: &mut [u8; REPLIES],
+        lengths: &mut [usize; 2],
+        reply: u8,
+        heads: &mut [u16; HEAD_CELLS],
+        nodes: &mut [u16; NODE_CELLS],
+        sets: &mut [u64; SET_WORDS],
     ) -> u8;
 }
 
@@ -228,6 +285,47 @@ pub fn verify_words(bytes: &[u8], budget: u32, trace: &mut [u8], verdict: &mut [
     words_by(recovery_verify, bytes, budget, trace, verdict)
 }
 
+/// `verify` in lent tables and a lent memo, whatever they hold.
+pub fn verify_in(
+    bytes: &[u8],
+    budget: u32,
+    trace: &mut [u8],
+    tables: &mut Tables,
+    memo: &mut [u64; MEMO_WORDS],
+) -> Result<Verdict, u8> {
+    let mut verdict = [0; 3];
+    match verify_words_in(bytes, budget, trace, &mut verdict, tables, memo) {
+        0 => Ok(verdict_of(verdict)),
+        number => Err(number),
+    }
+}
+
+/// The same in numbers.
+pub fn verify_words_in(
+    bytes: &[u8],
+    budget: u32,
+    trace: &mut [u8],
+    verdict: &mut [u64; 3],
+    tables: &mut Tables,
+    memo: &mut [u64; MEMO_WORDS],
+) -> u8 {
+    // SAFETY: as above.
+    unsafe {
+        recovery_verify_in(
+            bytes.as_ptr(),
+            bytes.len(),
+            budget,
+            trace.as_mut_ptr(),
+            trace.len(),
+            verdict,
+            &mut tables.heads,
+            &mut tables.nodes,
+            &mut tables.sets,
+            memo,
+        )
+    }
+}
+
 fn verdict_by(
     verify: LinkedVerify,
     bytes: &[u8],
@@ -274,8 +372,26 @@ fn verdict_of(words: [u64; 3]) -> Verdict {
 /// the sheet's refusal.
 pub fn check(bytes: &[u8], trace: &[u8]) -> Result<bool, u8> {
     // SAFETY: as above.
-    let number =
-        unsafe { recovery_check(bytes.as_ptr(), bytes.len(), trace.as_ptr(), trace.len()) };
+    checked(unsafe { recovery_check(bytes.as_ptr(), bytes.len(), trace.as_ptr(), trace.len()) })
+}
+
+/// The same in lent tables, whatever they hold.
+pub fn check_in(bytes: &[u8], trace: &[u8], tables: &mut Tables) -> Result<bool, u8> {
+    // SAFETY: as above.
+    checked(unsafe {
+        recovery_check_in(
+            bytes.as_ptr(),
+            bytes.len(),
+            trace.as_ptr(),
+            trace.len(),
+            &mut tables.heads,
+            &mut tables.nodes,
+            &mut tables.sets,
+        )
+    })
+}
+
+fn checked(number: u8) -> Result<bool, u8> {
     match number {
         0 => Ok(true),
         255 => Ok(false),
@@ -304,11 +420,44 @@ pub fn load(bytes: &[u8], record: &mut Record) -> u8 {
     }
 }
 
+/// The same, and writes the tables of an accepted sheet.
+pub fn load_in(bytes: &[u8], record: &mut Record, tables: &mut Tables) -> u8 {
+    // SAFETY: as above.
+    unsafe {
+        recovery_load_in(
+            bytes.as_ptr(),
+            bytes.len(),
+            &mut record.sheet,
+            &mut record.replies,
+            &mut record.lengths,
+            &mut tables.heads,
+            &mut tables.nodes,
+            &mut tables.sets,
+        )
+    }
+}
+
 /// Writes 0 and the action to do, or 1 and whether the goal holds at the end, 1 or
 /// 0, and gives 0; a bad record gives 31 and leaves `told` as it was.
 pub fn next(record: &Record, told: &mut [usize; 2]) -> u8 {
     // SAFETY: as above.
     unsafe { recovery_next(&record.sheet, &record.replies, &record.lengths, told) }
+}
+
+/// The same in lent tables, which then are those of the record's sheet.
+pub fn next_in(record: &Record, told: &mut [usize; 2], tables: &mut Tables) -> u8 {
+    // SAFETY: as above.
+    unsafe {
+        recovery_next_in(
+            &record.sheet,
+            &record.replies,
+            &record.lengths,
+            told,
+            &mut tables.heads,
+            &mut tables.nodes,
+            &mut tables.sets,
+        )
+    }
 }
 
 /// Adds the reply and gives 0, or gives the number of the refusal and leaves the
@@ -321,6 +470,22 @@ pub fn report(record: &mut Record, reply: u8) -> u8 {
             &mut record.replies,
             &mut record.lengths,
             reply,
+        )
+    }
+}
+
+/// The same in lent tables, which then are those of the record's sheet.
+pub fn report_in(record: &mut Record, reply: u8, tables: &mut Tables) -> u8 {
+    // SAFETY: as above.
+    unsafe {
+        recovery_report_in(
+            &record.sheet,
+            &mut record.replies,
+            &mut record.lengths,
+            reply,
+            &mut tables.heads,
+            &mut tables.nodes,
+            &mut tables.sets,
         )
     }
 }

@@ -3,7 +3,7 @@
 
 use std::collections::HashMap;
 
-use recovery::sheet::{Action, Epistemic, Program, Sheet, MAX_ACTION_NODES, MAX_TRACE};
+use recovery::sheet::{Action, Epistemic, Objective, Program, Sheet, MAX_ACTION_NODES, MAX_TRACE};
 use recovery::states::{states, State};
 use recovery::step::start_states;
 use recovery::truth::{holds, holds_between};
@@ -25,22 +25,37 @@ pub fn prepare(sheet: &Sheet, tables: &mut Tables) -> Words {
         tables,
         nodes: 0,
         sets: 0,
+        acts: 0,
     };
     for (number, action) in sheet.actions.iter().enumerate() {
         filling.action(sheet, number, action);
     }
+    filling.node([JUMP, size_of(&sheet.goal) as u16, 0]);
+    filling.formula(&sheet.goal);
     filling.program(&sheet.program);
-    filling.tests(&sheet.goal, 0, 1);
-    filling.node([3, 1, 0, 0]);
-    filling.node([3, 0, 0, 0]);
+    filling.node([END, filling.acts, 0]);
     words(start_states(sheet).iter())
 }
 
-/// Tables with so many nodes and sets written.
+/// The kinds of nodes: those of a program, and those of a formula.
+const ACT: u16 = 0;
+const BRANCH: u16 = 1;
+const JUMP: u16 = 2;
+const ALL: u16 = 3;
+const ANY: u16 = 4;
+const KNOWN: u16 = 5;
+const NOT_KNOWN: u16 = 6;
+const END: u16 = 7;
+
+/// The node from which on the goal stands.
+const GOAL: usize = 1;
+
+/// Tables with so many nodes, sets and action nodes written.
 struct Filling<'a> {
     tables: &'a mut Tables,
     nodes: usize,
     sets: usize,
+    acts: u16,
 }
 
 impl Filling<'_> {
@@ -50,9 +65,9 @@ impl Filling<'_> {
         self.sets += 1;
     }
 
-    fn node(&mut self, cells: [u16; 4]) {
-        let place = 4 * self.nodes;
-        self.tables.nodes[place..place + 4].copy_from_slice(&cells);
+    fn node(&mut self, cells: [u16; 3]) {
+        let place = 3 * self.nodes;
+        self.tables.nodes[place..place + 3].copy_from_slice(&cells);
         self.nodes += 1;
     }
 
@@ -78,33 +93,33 @@ impl Filling<'_> {
         self.tables.heads[3 * number..3 * number + 3].copy_from_slice(&head.map(|x| x as u16));
     }
 
-    /// Where the formula holds `met` nodes behind its last test are skipped, else `unmet`.
-    fn tests(&mut self, formula: &Epistemic, met: usize, unmet: usize) {
+    /// The nodes of a formula in reading order, and the sets of its atoms.
+    fn formula(&mut self, formula: &Epistemic) {
         match formula {
-            Epistemic::Known(part) | Epistemic::NotKnown(part) => {
-                let (known, unknown) = match formula {
-                    Epistemic::Known(_) => (met, unmet),
-                    _ => (unmet, met),
-                };
-                self.node([1, self.sets as u16, known as u16, unknown as u16]);
-                self.set((0..=State::MAX).filter(|&state| holds(part, state)));
-            }
-            Epistemic::And(left, right) => {
-                self.tests(left, 0, atoms(right) + unmet);
-                self.tests(right, met, unmet);
-            }
-            Epistemic::Or(left, right) => {
-                self.tests(left, atoms(right) + met, 0);
-                self.tests(right, met, unmet);
-            }
+            Epistemic::Known(part) => self.atom(KNOWN, part),
+            Epistemic::NotKnown(part) => self.atom(NOT_KNOWN, part),
+            Epistemic::And(left, right) => self.pair(ALL, left, right),
+            Epistemic::Or(left, right) => self.pair(ANY, left, right),
         }
+    }
+
+    fn atom(&mut self, kind: u16, part: &Objective) {
+        self.node([kind, self.sets as u16, 0]);
+        self.set((0..=State::MAX).filter(|&state| holds(part, state)));
+    }
+
+    fn pair(&mut self, kind: u16, left: &Epistemic, right: &Epistemic) {
+        self.node([kind, size_of(left) as u16, 0]);
+        self.formula(left);
+        self.formula(right);
     }
 
     fn program(&mut self, program: &Program) {
         match program {
             Program::End => {}
             Program::Act { action, rest } => {
-                self.node([0, u16::from(*action), 0, 0]);
+                self.node([ACT, u16::from(*action), self.acts]);
+                self.acts += 1;
                 self.program(rest);
             }
             Program::Branch {
@@ -113,9 +128,12 @@ impl Filling<'_> {
                 otherwise,
                 rest,
             } => {
-                self.tests(condition, 0, size(then) + 1);
+                let met = size_of(condition);
+                let unmet = met + size(then) + 1;
+                self.node([BRANCH, met as u16, unmet as u16]);
+                self.formula(condition);
                 self.program(then);
-                self.node([2, 0, size(otherwise) as u16, 0]);
+                self.node([JUMP, size(otherwise) as u16, 0]);
                 self.program(otherwise);
                 self.program(rest);
             }
@@ -123,11 +141,13 @@ impl Filling<'_> {
     }
 }
 
-/// How many parts "known" and "not known" a formula has.
-fn atoms(formula: &Epistemic) -> usize {
+/// How many nodes a formula takes.
+fn size_of(formula: &Epistemic) -> usize {
     match formula {
         Epistemic::Known(_) | Epistemic::NotKnown(_) => 1,
-        Epistemic::And(left, right) | Epistemic::Or(left, right) => atoms(left) + atoms(right),
+        Epistemic::And(left, right) | Epistemic::Or(left, right) => {
+            1 + size_of(left) + size_of(right)
+        }
     }
 }
 
@@ -141,7 +161,7 @@ fn size(program: &Program) -> usize {
             then,
             otherwise,
             rest,
-        } => atoms(condition) + size(then) + 1 + size(otherwise) + size(rest),
+        } => 1 + size_of(condition) + size(then) + 1 + size(otherwise) + size(rest),
     }
 }
 
@@ -195,28 +215,48 @@ pub fn settle(tables: &Tables, set: &Words, at: usize) -> Place {
 fn settled(tables: &Tables, set: &Words, at: usize) -> Place {
     let mut node = at;
     loop {
-        let cells: [u16; 4] = tables.nodes[4 * node..4 * node + 4].try_into().unwrap();
-        let [kind, operand, met, unmet] = cells.map(usize::from);
+        let [kind, operand, second] = node_at(tables, node);
         let skip = match kind {
-            0 => {
+            ACT => {
                 return Place::Act {
                     node,
-                    action: operand,
+                    action: operand.into(),
                 }
             }
-            1 => {
-                let known = set.iter().zip(set_at(tables, operand));
-                if known.fold(0, |out, (state, told)| out | (state & !told)) == 0 {
-                    met
-                } else {
-                    unmet
+            BRANCH if formula_holds(tables, set, node + 1) => operand,
+            BRANCH => second,
+            JUMP => operand,
+            _ => {
+                return Place::End {
+                    goal: formula_holds(tables, set, GOAL),
                 }
             }
-            2 => met,
-            _ => return Place::End { goal: operand == 1 },
         };
-        node += 1 + skip;
+        node += 1 + usize::from(skip);
     }
+}
+
+fn node_at(tables: &Tables, node: usize) -> [u16; 3] {
+    tables.nodes[3 * node..3 * node + 3].try_into().unwrap()
+}
+
+/// Whether the formula at a node holds where the states of a set are possible.
+fn formula_holds(tables: &Tables, set: &Words, at: usize) -> bool {
+    let [kind, operand, _] = node_at(tables, at);
+    let first = at + 1;
+    let second = first + usize::from(operand);
+    match kind {
+        KNOWN => is_known(tables, set, operand.into()),
+        NOT_KNOWN => !is_known(tables, set, operand.into()),
+        ALL => formula_holds(tables, set, first) && formula_holds(tables, set, second),
+        _ => formula_holds(tables, set, first) || formula_holds(tables, set, second),
+    }
+}
+
+/// Whether every state of a set is in the set of a number.
+fn is_known(tables: &Tables, set: &Words, number: usize) -> bool {
+    let words = set.iter().zip(set_at(tables, number));
+    words.fold(0, |out, (state, told)| out | (state & !told)) == 0
 }
 
 /// The states possible after replies and where the program then settles, over the
@@ -341,13 +381,16 @@ impl Remember for Forgetful {
 /// How many places are remembered at a time.
 const SLOTS: usize = 256;
 
+/// The words of each.
+pub const SLOT_WORDS: usize = 8;
+
 /// In each slot a place's node, action, depth, the number of histories behind it
 /// and its set; no place leads on to node 0.
-struct Slots([[u64; 8]; SLOTS]);
+struct Slots([[u64; SLOT_WORDS]; SLOTS]);
 
 impl Slots {
     fn new() -> Slots {
-        Slots([[0; 8]; SLOTS])
+        Slots([[0; SLOT_WORDS]; SLOTS])
     }
 
     /// At which depth a place was remembered, and with how many histories behind it.
@@ -376,7 +419,7 @@ impl Remember for Slots {
 /// The slot for a set and a node. It is `slot_number` of the proved search
 /// (`crates/verifier/src/memo.rt`), so that like is compared with like; nothing
 /// checks that, and they change together.
-fn slot_number(set: &Words, onward: usize) -> usize {
+pub fn slot_number(set: &Words, onward: usize) -> usize {
     let joined = |a: u64, b: u64| a.wrapping_add(b.wrapping_mul(2));
     let x = joined(set[0], set[1]);
     let y = joined(set[2], set[3]).wrapping_add(onward as u64);

@@ -1,17 +1,20 @@
 //! The proved runner against the Rust runner: every answer, and after every call
-//! every byte of the record and both lengths.
+//! every byte of the record and both lengths. Each call is made in lent tables too,
+//! full of what earlier calls left there, at first of any numbers.
 
 mod common;
 
+use std::cell::RefCell;
 use std::collections::BTreeMap;
 
 use common::{bytes, choices, longest, many, FEW};
-use linked::{Verdict, REPLIES, SHEET};
+use linked::{Tables, Verdict, REPLIES, SHEET};
 use recovery::edges::edges;
 use recovery::encode::encode;
 use recovery::execute::Execution;
 use recovery::random::{damaged, good, Random, Size};
 use recovery::read::read;
+use recovery::records::{some_record, DAMAGES};
 use recovery::refusal::Refusal;
 use recovery::runner::{Record, Told};
 use recovery::sheet::{Action, Program, Sheet, MAX_TRACE};
@@ -19,6 +22,16 @@ use recovery::step::{gather, keep, start_states};
 
 /// What "Next" leaves where it refuses.
 const BEFORE: [usize; 2] = [usize::MAX, 12_345];
+
+thread_local! {
+    /// The tables that are lent.
+    static LENT: RefCell<Tables> = RefCell::new(any_tables(&mut Random::new(60)));
+}
+
+/// Tables full of any numbers.
+fn any_tables(random: &mut Random) -> Tables {
+    Tables::filled(|| random.bits())
+}
 
 /// How often each answer was given.
 #[derive(Debug, Default)]
@@ -61,6 +74,15 @@ fn memory(record: &Record) -> linked::Record {
     }
 }
 
+/// Any bytes and lengths.
+fn any_memory(random: &mut Random) -> linked::Record {
+    linked::Record {
+        sheet: bytes(random, SHEET).try_into().unwrap(),
+        replies: bytes(random, REPLIES).try_into().unwrap(),
+        lengths: [random.bits() as usize, random.bits() as usize],
+    }
+}
+
 impl Both {
     fn new(record: Record) -> Both {
         Both {
@@ -71,12 +93,12 @@ impl Both {
 
     /// Loads a sheet over any memory.
     fn load(random: &mut Random, sheet: &[u8]) -> Both {
-        let mut proved = linked::Record {
-            sheet: bytes(random, SHEET).try_into().unwrap(),
-            replies: bytes(random, REPLIES).try_into().unwrap(),
-            lengths: [random.bits() as usize, random.bits() as usize],
-        };
+        let mut proved = any_memory(random);
         let number = linked::load(sheet, &mut proved);
+        let mut in_lent = any_memory(random);
+        let again = LENT.with_borrow_mut(|tables| linked::load_in(sheet, &mut in_lent, tables));
+        assert_eq!(again, number, "load in lent tables: {sheet:02x?}");
+        assert!(in_lent == proved, "load in lent tables: {sheet:02x?}");
         let (rust, answer) = Record::load(sheet);
         assert_eq!(number, number_of(answer), "sheet {sheet:02x?}");
         let both = Both { proved, rust };
@@ -98,6 +120,10 @@ impl Both {
         let before = self.rust.clone();
         let mut told = BEFORE;
         let number = linked::next(&self.proved, &mut told);
+        let mut again = BEFORE;
+        let in_lent =
+            LENT.with_borrow_mut(|tables| linked::next_in(&self.proved, &mut again, tables));
+        assert_eq!((in_lent, again), (number, told), "next: {before:02x?}");
         let (rust, answer) = before.clone().next();
         let expected = match answer {
             Told::Action(action) => (0, [0, usize::from(action)]),
@@ -121,7 +147,11 @@ impl Both {
 
     fn report(&mut self, reply: u8, counts: &mut Counts) -> Result<(), Refusal> {
         let before = self.rust.clone();
+        let mut again = self.proved.clone();
         let number = linked::report(&mut self.proved, reply);
+        let in_lent = LENT.with_borrow_mut(|tables| linked::report_in(&mut again, reply, tables));
+        assert_eq!(in_lent, number, "report of {reply}: {before:02x?}");
+        assert!(again == self.proved, "report of {reply}: {before:02x?}");
         let (rust, answer) = before.clone().report(reply);
         assert_eq!(
             number,
@@ -285,119 +315,6 @@ fn lists_of_calls() {
     assert_eq!([longest_sheet, longest_list], [SHEET, REPLIES]);
 }
 
-/// A name, whether each record so damaged is refused, and the damage. The record
-/// has a byte past each length.
-type Damage = (&'static str, bool, fn(&mut Random, &mut Record));
-
-const DAMAGES: &[Damage] = &[
-    ("a byte past the sheet", true, |random, record| {
-        let place = random.between(record.length, SHEET - 1);
-        record.sheet[place] = 1 << random.below(8);
-    }),
-    ("the first byte past the sheet", true, |random, record| {
-        record.sheet[record.length] = random.between(1, 255) as u8;
-    }),
-    ("the last byte past the sheet", true, |_, record| {
-        record.sheet[SHEET - 1] = 1;
-    }),
-    ("a byte past the replies", true, |random, record| {
-        let place = random.between(record.count, REPLIES - 1);
-        record.replies[place] = 1 << random.below(8);
-    }),
-    ("the first byte past the replies", true, |random, record| {
-        record.replies[record.count] = random.between(1, 255) as u8;
-    }),
-    ("the last byte past the replies", true, |_, record| {
-        record.replies[REPLIES - 1] = 1;
-    }),
-    ("a bit of the sheet", false, |random, record| {
-        record.sheet[random.below(record.length)] ^= 1 << random.below(8);
-    }),
-    ("a byte of the sheet", false, |random, record| {
-        record.sheet[random.below(record.length)] = random.bits() as u8;
-    }),
-    ("a length of one less", true, |_, record| record.length -= 1),
-    ("a length of one more", true, |_, record| record.length += 1),
-    ("any length", false, |random, record| {
-        record.length = random.between(0, 2 * record.length);
-    }),
-    ("a length of 0", true, |_, record| record.length = 0),
-    ("a length of 1,024", true, |_, record| record.length = SHEET),
-    ("a length of 1,025", true, |_, record| {
-        record.length = SHEET + 1
-    }),
-    ("a length of 70,000", true, |_, record| {
-        record.length = 70_000
-    }),
-    ("a length of 65,536 more", true, |_, record| {
-        record.length += 65_536
-    }),
-    ("the greatest length", true, |_, record| {
-        record.length = usize::MAX
-    }),
-    ("one reply less", false, |_, record| {
-        record.count = record.count.saturating_sub(1)
-    }),
-    ("one reply more", false, |_, record| record.count += 1),
-    ("any count", false, |random, record| {
-        record.count = random.between(0, REPLIES)
-    }),
-    ("a count of 64", true, |_, record| record.count = REPLIES),
-    ("a count of 65", true, |_, record| {
-        record.count = REPLIES + 1
-    }),
-    ("a count of 70,000", true, |_, record| record.count = 70_000),
-    ("a count of 256 more", true, |_, record| record.count += 256),
-    ("the greatest count", true, |_, record| {
-        record.count = usize::MAX
-    }),
-    ("another reply", false, |random, record| {
-        record.replies[random.below(record.count.max(1))] = random.between(0, 3) as u8;
-    }),
-    ("any reply", false, |random, record| {
-        record.replies[random.below(record.count.max(1))] = random.between(0, 15) as u8;
-    }),
-    ("a reply more", false, |random, record| {
-        record.replies[record.count] = random.between(0, 8) as u8;
-        record.count += 1;
-    }),
-    ("64 replies", true, |random, record| {
-        let replies = &mut record.replies[record.count..];
-        replies.fill_with(|| random.below(3) as u8);
-        record.count = REPLIES;
-    }),
-    ("the record of zeros", true, |_, record| {
-        *record = Record::ZERO
-    }),
-    ("zeros with lengths", true, |random, record| {
-        *record = Record::ZERO;
-        record.length = random.between(0, 2);
-        record.count = random.between(0, 2);
-    }),
-    ("any bytes", true, |random, record| {
-        *record = Record {
-            sheet: bytes(random, SHEET).try_into().unwrap(),
-            replies: bytes(random, REPLIES).try_into().unwrap(),
-            ..*record
-        };
-    }),
-];
-
-/// A record of a small sheet with some accepted replies, or all.
-fn some_record(random: &mut Random) -> Record {
-    let sheet = good(random, &Size::SMALL);
-    let mut record = Record::load(&encode(&sheet)).0;
-    let whole = random.chance(1, 2);
-    while let Told::Action(_) = record.clone().next().1 {
-        if !whole && random.chance(1, 4) {
-            break;
-        }
-        record = record.report(random.below(3) as u8).0;
-    }
-    assert!((1..SHEET).contains(&record.length) && record.count < REPLIES);
-    record
-}
-
 #[test]
 fn damaged_records() {
     let mut random = Random::new(62);
@@ -492,4 +409,56 @@ fn the_record_of_zeros() {
         assert_eq!(answer, Err(Refusal::Record));
         assert!(both.rust == Record::ZERO);
     }
+}
+
+/// What is in lent tables after a call on a record: its sheet's tables, or what was
+/// there if a byte past the sheet isn't 0 or the sheet is refused.
+fn tables_after(record: &linked::Record, before: &Tables) -> Tables {
+    let mut after = before.clone();
+    let length = record.lengths[0];
+    if length <= SHEET && record.sheet[length..].iter().all(|&byte| byte == 0) {
+        linked::prepare(&record.sheet[..length], &mut after, &mut [0; 4]);
+    }
+    after
+}
+
+#[test]
+fn what_lent_tables_hold() {
+    let mut random = Random::new(64);
+    let (mut written, mut left) = (0, 0);
+    let mut before = any_tables(&mut random);
+    for round in 0..60 {
+        if round % 10 == 0 {
+            before = any_tables(&mut random);
+        }
+        let good = some_record(&mut random);
+        let mut records = vec![memory(&good)];
+        for &(_, _, damage) in DAMAGES {
+            let mut bad = good.clone();
+            damage(&mut random, &mut bad);
+            records.push(memory(&bad));
+        }
+        for record in records {
+            let after = tables_after(&record, &before);
+            let mut tables = before.clone();
+            linked::next_in(&record, &mut [0; 2], &mut tables);
+            assert!(tables == after, "next: {record:02x?}");
+            let mut tables = before.clone();
+            linked::report_in(&mut record.clone(), random.below(3) as u8, &mut tables);
+            assert!(tables == after, "report: {record:02x?}");
+            *if after == before {
+                &mut left
+            } else {
+                &mut written
+            } += 1;
+        }
+    }
+    for bytes in sheets(&mut random).into_iter().step_by(40) {
+        let mut after = before.clone();
+        linked::prepare(&bytes, &mut after, &mut [0; 4]);
+        let mut tables = before.clone();
+        linked::load_in(&bytes, &mut any_memory(&mut random), &mut tables);
+        assert!(tables == after, "load: {bytes:02x?}");
+    }
+    assert!(written >= 500 && left >= 500, "{written} {left}");
 }

@@ -266,13 +266,17 @@ fn full_histories() {
     assert!(compared.longest >= 20, "{compared:?}");
 }
 
+/// The node from which on the goal stands.
+const GOAL: usize = 1;
+
 /// Steps and places as `progression/specs/Machine` and `routine/specs/Memory` define them.
 mod machine {
-    use super::member;
+    use super::{member, GOAL};
     use linked::{Place, Tables, Words};
 
     const HEADS: usize = 31;
-    const NODES: usize = 2048;
+    const NODES: usize = 4096;
+    const LEVELS: usize = 16;
     const SETS: usize = 10_240;
 
     fn set_at(tables: &Tables, k: usize) -> Words {
@@ -324,40 +328,87 @@ mod machine {
         set_of(|state| member(&effect, state) && member(&told, state))
     }
 
-    /// The place, whether it was told by a node, and how many tests were known and not.
-    pub fn settled(tables: &Tables, set: &Words, at: usize) -> (Place, bool, [usize; 2]) {
+    fn node_at(tables: &Tables, node: usize) -> [usize; 3] {
+        if node >= NODES {
+            return [7, 0, 0];
+        }
+        [0, 1, 2].map(|i| usize::from(tables.nodes[3 * node + i]))
+    }
+
+    fn known_by(tables: &Tables, set: &Words, k: usize) -> bool {
+        let told = set_at(tables, k);
+        (0..256).all(|state| !member(set, state) || member(&told, state))
+    }
+
+    /// Whether the formula at a node holds; how many "and" and "or" were met, by
+    /// whether their first part held, and how often no level was left.
+    fn holds_at(tables: &Tables, set: &Words, left: usize, at: usize, met: &mut Met) -> bool {
+        if left == 0 {
+            met.too_deep += 1;
+            return false;
+        }
+        let [kind, operand, _] = node_at(tables, at);
+        match kind {
+            3 => {
+                let first = holds_at(tables, set, left - 1, at + 1, met);
+                met.all[usize::from(first)] += 1;
+                first && holds_at(tables, set, left - 1, at + 1 + operand, met)
+            }
+            4 => {
+                let first = holds_at(tables, set, left - 1, at + 1, met);
+                met.any[usize::from(first)] += 1;
+                first || holds_at(tables, set, left - 1, at + 1 + operand, met)
+            }
+            5 => known_by(tables, set, operand),
+            6 => !known_by(tables, set, operand),
+            _ => false,
+        }
+    }
+
+    /// What was met on the way.
+    #[derive(Debug, Default)]
+    pub struct Met {
+        pub branches: [usize; 2],
+        pub all: [usize; 2],
+        pub any: [usize; 2],
+        pub too_deep: usize,
+    }
+
+    /// The place, and whether it was told by a node of a program.
+    pub fn settled(tables: &Tables, set: &Words, at: usize, met: &mut Met) -> (Place, bool) {
         let mut skip = at;
-        let mut tests = [0; 2];
         for node in 0..NODES {
             if skip > 0 {
                 skip -= 1;
                 continue;
             }
-            let [kind, operand, met, unmet] =
-                [0, 1, 2, 3].map(|i| usize::from(tables.nodes[4 * node + i]));
+            let [kind, operand, second] = node_at(tables, node);
             skip = match kind {
                 0 => {
                     let place = Place::Act {
                         node,
                         action: operand,
                     };
-                    return (place, true, tests);
+                    return (place, true);
                 }
                 1 => {
-                    let told = set_at(tables, operand);
-                    let known = (0..256).all(|state| !member(set, state) || member(&told, state));
-                    tests[usize::from(!known)] += 1;
-                    if known {
-                        met
+                    let holds = holds_at(tables, set, LEVELS, node + 1, met);
+                    met.branches[usize::from(holds)] += 1;
+                    if holds {
+                        operand
                     } else {
-                        unmet
+                        second
                     }
                 }
-                2 => met,
-                _ => return (Place::End { goal: operand == 1 }, true, tests),
+                2 => operand,
+                3..=6 => return (Place::End { goal: false }, false),
+                _ => {
+                    let goal = holds_at(tables, set, LEVELS, GOAL, met);
+                    return (Place::End { goal }, true);
+                }
             };
         }
-        (Place::End { goal: false }, false, tests)
+        (Place::End { goal: false }, false)
     }
 }
 
@@ -383,6 +434,38 @@ fn random_index(random: &mut Random, limit: usize) -> usize {
     }
 }
 
+/// Writes a node, if it is one of the memory.
+fn put_node(tables: &mut Tables, node: usize, cells: [u16; 3]) {
+    if let Some(place) = tables.nodes.get_mut(3 * node..3 * node + 3) {
+        place.copy_from_slice(&cells);
+    }
+}
+
+/// Writes a formula of at most so many levels and gives the node behind it; now
+/// and then the second part doesn't stand where the node says.
+fn put_formula(random: &mut Random, tables: &mut Tables, at: usize, left: usize) -> usize {
+    if random.chance(1, 64) {
+        // One first part in the other, deeper than any formula that is read.
+        for level in 0..20 {
+            put_node(tables, at + level, [3 + random.below(2) as u16, 0, 0]);
+        }
+        return at + 20;
+    }
+    if left == 1 || random.chance(3, 5) {
+        let set = random.below(10_300) as u16;
+        put_node(tables, at, [5 + random.below(2) as u16, set, 0]);
+        return at + 1;
+    }
+    let second = put_formula(random, tables, at + 1, left - 1);
+    let size = if random.chance(1, 64) {
+        random.bits() as u16
+    } else {
+        (second - (at + 1)) as u16
+    };
+    put_node(tables, at, [3 + random.below(2) as u16, size, 0]);
+    put_formula(random, tables, second, left - 1)
+}
+
 /// Memory with any numbers, in most of which a program goes some way and steps
 /// find sets.
 fn random_tables(random: &mut Random) -> Tables {
@@ -395,17 +478,24 @@ fn random_tables(random: &mut Random) -> Tables {
             *cell = random.below(10_300) as u16;
         }
     }
-    let farthest = *random.pick(&[1, 3, 40, 1000]);
-    for node in tables.nodes.chunks_exact_mut(4) {
-        if random.chance(31, 32) {
-            node[0] = 1 + random.below(2) as u16;
-            node[1] = random.below(10_300) as u16;
-            node[2] = random.below(farthest) as u16;
-            node[3] = random.below(farthest) as u16;
-        } else if random.chance(7, 8) {
-            node[0] = *random.pick(&[0, 3, 4, 65535]);
-            node[1] = random.below(3) as u16;
-        }
+    let farthest = *random.pick(&[1, 1, 3, 40, 1000]);
+    let mut next = put_formula(random, &mut tables, GOAL, 18);
+    while next < tables.nodes.len() / 3 {
+        let node = next;
+        let far = random.below(farthest) as u16;
+        let cells = match random.below(64) {
+            0..=2 => [0, random.below(40) as u16, 0],
+            3..=5 => [*random.pick(&[7, 8, 65535]), 0, 0],
+            6 => [*random.pick(&[3, 4, 5, 6]), far, 0],
+            7..=20 => [2, far, 0],
+            _ => {
+                next = put_formula(random, &mut tables, node + 1, 18);
+                let size = (next - node - 1) as u16;
+                [1, size + far, size + random.below(farthest) as u16]
+            }
+        };
+        put_node(&mut tables, node, cells);
+        next = next.max(node + 1);
     }
     for words in tables.sets.chunks_exact_mut(4) {
         words.copy_from_slice(&random_set(random));
@@ -447,13 +537,16 @@ fn steps_on_any_memory() {
 fn places_on_any_memory() {
     let mut random = Random::new(28);
     let (mut acts, mut met, mut missed, mut past) = (0, 0, 0, 0);
-    let mut tests = [0; 2];
-    for _ in 0..200 {
+    let mut on_the_way = machine::Met::default();
+    for _ in 0..400 {
         let tables = random_tables(&mut random);
         for _ in 0..40 {
             let set = random_set(&mut random);
-            let at = random_index(&mut random, 2048);
-            let (expected, told, walked) = machine::settled(&tables, &set, at);
+            let mut at = random_index(&mut random, 4096);
+            while random.chance(7, 8) && at < 4096 && (3..=6).contains(&tables.nodes[3 * at]) {
+                at += 1;
+            }
+            let (expected, told) = machine::settled(&tables, &set, at, &mut on_the_way);
             assert_eq!(settle(&tables, &set, at), expected, "from {at} {set:x?}");
             match (expected, told) {
                 (Place::Act { .. }, _) => acts += 1,
@@ -461,10 +554,11 @@ fn places_on_any_memory() {
                 (Place::End { goal: false }, true) => missed += 1,
                 (Place::End { goal: false }, false) => past += 1,
             }
-            tests = [tests[0] + walked[0], tests[1] + walked[1]];
         }
     }
     let counts = [acts, met, missed, past];
     assert!(counts.iter().all(|&count| count >= 300), "{counts:?}");
-    assert!(tests.iter().all(|&count| count >= 10_000), "{tests:?}");
+    let met = [on_the_way.branches, on_the_way.all, on_the_way.any].concat();
+    assert!(met.iter().all(|&count| count >= 1000), "{on_the_way:?}");
+    assert!(on_the_way.too_deep >= 100, "{on_the_way:?}");
 }

@@ -1,10 +1,11 @@
-//! Turns the lines of `rows` and `edges` into claims that the prover evaluates.
+//! Turns the lines of `rows`, `edges` and `records` into claims that the prover
+//! evaluates.
 //!
 //! `theorems DIR` reads the lines from standard input and writes a crate of
 //! definitions to DIR: one claim for each verdict, printed line, talk with the
-//! runner, checked trace and refusal, each to be proved by evaluation. A claim whose
-//! answer differs from the definitions' is refused, and its name has the
-//! line's number. The number of claims is printed.
+//! runner, checked trace, refusal, and call on a record, each to be proved by
+//! evaluation. A claim whose answer differs from the definitions' is refused, and
+//! its name has the line's number. The number of claims is printed.
 
 use std::env;
 use std::fmt::Write;
@@ -21,7 +22,7 @@ use Prim.Native.Nat.{ℕ}
 use mathlib.Core.List.{List, []}
 use mathlib.Core.Path.{_≡_}
 use Rattle.format.specs.Syntax.{Sheet}
-use Rattle.format.specs.Format.{Answer, accepted, refused, reading}
+use Rattle.format.specs.Format.{Answer, gives, refused, onAccepted, reading}
 use Rattle.semantics.specs.Verdict.{Verdict, Verified, verified}
 use Rattle.semantics.specs.Replies.{Told, told, reported}
 use Rattle.semantics.specs.Cases.{memoryWith}
@@ -29,23 +30,14 @@ use Rattle.semantics.specs.Cases.{memoryWith}
 abbrev pub Verifies : (bytes : List ℕ) (budget : ℕ) → Answer Verdict → (shown : List ℕ) → Type 0
 Verifies bytes budget answer shown = verified bytes budget (memoryWith []) ≡ record { answer = answer; memory = memoryWith shown }
 
-unfoldable pub toldFor : Answer Sheet → (rs : List ℕ) → Answer Told
-unfolding told
-toldFor (refused r) rs = refused r
-toldFor (accepted sheet) rs = accepted (told sheet rs)
-
-unfoldable pub reportedFor : Answer Sheet → (rs : List ℕ) (r : ℕ) → Answer (List ℕ)
-unfolding reported
-reportedFor (refused n) rs r = refused n
-reportedFor (accepted sheet) rs r = reported sheet rs r
-
 abbrev pub Talks : (bytes rs : List ℕ) (r : ℕ) → Told → Answer (List ℕ) → Type 0
-Talks bytes rs r t a = (toldFor (reading bytes) rs ≡ accepted t) × (reportedFor (reading bytes) rs r ≡ a)
+Talks bytes rs r t a =
+    (onAccepted (λ sheet. gives (told sheet rs)) (reading bytes) ≡ gives t) × (onAccepted (λ sheet. reported sheet rs r) (reading bytes) ≡ a)
 
 -- The number of a refusal, 0 for an accepted sheet.
 unfoldable pub refusalOf : Answer Sheet → ℕ
 refusalOf (refused r) = r
-refusalOf (accepted sheet) = 0
+refusalOf (gives sheet) = 0
 ";
 
 const HEAD: &str = "\
@@ -54,12 +46,13 @@ use Prim.Native.Nat.{ℕ}
 use mathlib.Core.List.{List, [], _∷_}
 use mathlib.Core.Path.{_≡_, refl}
 use mathlib.Core.Bool.{true, false}
-use Rattle.format.specs.Format.{accepted, refused, reading}
+use Rattle.format.specs.Format.{gives, refused, onAccepted, mostBytes, mostActs, reading}
 use Rattle.semantics.specs.Verdict.{valid, invalid, stopped, verified}
-use Rattle.semantics.specs.Replies.{to-do, at-end}
+use Rattle.semantics.specs.Replies.{to-do, at-end, told, reported}
 use Rattle.semantics.specs.Checker.{checked}
 use Rattle.semantics.specs.Printing.{printed}
-use Rattle.compared.specs.Claims.{Verifies, toldFor, reportedFor, Talks, refusalOf}
+use Rattle.runner.specs.Records.{padded, nextOn, reportOn, recordAfter}
+use Rattle.compared.specs.Claims.{Verifies, Talks, refusalOf}
 ";
 
 fn main() -> io::Result<()> {
@@ -77,11 +70,15 @@ fn main() -> io::Result<()> {
     let mut claims = 0;
     let mut root = String::from("pub mod Claims\n");
     for (number, part) in rows.chunks(LINES).enumerate() {
-        let mut module = String::from(HEAD);
+        let mut module = Module {
+            text: String::from(HEAD),
+            claims: 0,
+        };
         for (index, row) in part.iter().enumerate() {
-            claims += claims_of(number * LINES + index + 1, row, &mut module);
+            module.row(number * LINES + index + 1, row);
         }
-        fs::write(dir.join(format!("specs/Rows{number}.antt")), module)?;
+        claims += module.claims;
+        fs::write(dir.join(format!("specs/Rows{number}.antt")), module.text)?;
         writeln!(root, "pub mod Rows{number}").unwrap();
     }
     fs::write(dir.join("specs/Lib.antt"), root)?;
@@ -89,97 +86,195 @@ fn main() -> io::Result<()> {
     Ok(())
 }
 
-/// Writes the claims of one line, and gives their number.
-fn claims_of(number: usize, row: &str, module: &mut String) -> usize {
-    let fields: Vec<&str> = row.split(';').collect();
-    let bytes = byte_list(fields[0]);
-    let mut count = 0;
-    let mut claim = |name: String, statement: String, unfolding: &str, proof: &str| {
+/// A module of claims.
+struct Module {
+    text: String,
+    claims: usize,
+}
+
+impl Module {
+    fn claim(&mut self, name: String, statement: String, unfolding: &str, proof: &str) {
         write!(
-            module,
+            self.text,
             "\npub {name} : {statement}\nunfolding {unfolding}\n{name} = {proof}\n"
         )
         .unwrap();
-        count += 1;
-    };
-    if let [_, refusal] = fields[..] {
-        let statement = format!("refusalOf (reading {bytes}) ≡ {refusal}");
-        claim(
-            format!("reads-{number}"),
-            statement,
-            "reading refusalOf",
-            "refl",
-        );
-        return count;
+        self.claims += 1;
     }
-    let [_, budget, answer, trace, talks, checks] = fields[..] else {
-        panic!("not a line of rows or edges: {row}");
-    };
 
-    let statement = format!(
-        "Verifies {bytes} {budget} {} {}",
-        verdict(answer),
-        byte_list(trace)
-    );
-    claim(format!("verdict-{number}"), statement, "verified", "refl");
-    if budget == "1000000" {
-        let lines = numbers(printed(answer, trace).bytes());
-        let statement = format!("printed {bytes} ≡ {lines}");
-        claim(format!("lines-{number}"), statement, "printed", "refl");
-    }
-    for (index, talk) in talks.split(',').filter(|talk| !talk.is_empty()).enumerate() {
-        let parts: Vec<&str> = talk.split(':').collect();
-        let [replies, reply, told, report] = parts[..] else {
-            panic!("not a talk: {talk}");
-        };
-        let before = numbers(replies.bytes().map(|digit| digit - b'0'));
-        let told = match told {
-            "e1" => "(at-end true)".to_string(),
-            "e0" => "(at-end false)".to_string(),
-            action => format!("(to-do {})", &action[1..]),
-        };
-        let report = match report {
-            "ok" => {
-                let reply: u8 = reply.parse().expect("a reply");
-                let after = replies.bytes().map(|digit| digit - b'0').chain([reply]);
-                format!("(accepted {})", numbers(after))
+    /// The claims of one line.
+    fn row(&mut self, number: usize, row: &str) {
+        let fields: Vec<&str> = row.split(';').collect();
+        match fields[..] {
+            [sheet, refusal] => {
+                let statement = format!("refusalOf (reading {}) ≡ {refusal}", byte_list(sheet));
+                let name = format!("reads-{number}");
+                self.claim(name, statement, "reading refusalOf", "refl");
             }
-            refusal => format!("(refused {refusal})"),
-        };
-        let statement = format!("Talks {bytes} {before} {reply} {told} {report}");
-        claim(
-            format!("talk-{number}-{index}"),
-            statement,
-            "toldFor reportedFor reading",
-            "(refl, refl)",
-        );
+            [sheet, budget, answer, trace, talks, checks] => {
+                let sheet = byte_list(sheet);
+                self.verdict(number, &sheet, budget, answer, trace);
+                self.talks(number, &sheet, talks);
+                self.checks(number, &sheet, checks);
+            }
+            ["record", sheet, length, replies, count, told, reports] => {
+                let record = Record {
+                    sheet: byte_list(sheet),
+                    length,
+                    replies: bytes(replies),
+                    count: count.parse().expect("a count"),
+                };
+                self.record(number, &record, told, reports);
+            }
+            _ => panic!("not a line of rows, edges or records: {row}"),
+        }
     }
-    for (index, check) in checks
-        .split(',')
-        .filter(|check| !check.is_empty())
-        .enumerate()
-    {
-        let (trace, said) = check.split_once(':').expect("a checked trace");
-        let said = match said {
-            "yes" => "accepted true".to_string(),
-            "no" => "accepted false".to_string(),
-            refusal => format!("refused {refusal}"),
+
+    fn verdict(&mut self, number: usize, sheet: &str, budget: &str, answer: &str, trace: &str) {
+        let statement = format!(
+            "Verifies {sheet} {budget} {} {}",
+            verdict(answer),
+            byte_list(trace)
+        );
+        self.claim(format!("verdict-{number}"), statement, "verified", "refl");
+        if budget == "1000000" {
+            let lines = numbers(printed(answer, trace).bytes());
+            let statement = format!("printed {sheet} ≡ {lines}");
+            self.claim(format!("lines-{number}"), statement, "printed", "refl");
+        }
+    }
+
+    fn talks(&mut self, number: usize, sheet: &str, talks: &str) {
+        for (index, talk) in parts(talks) {
+            let fields: Vec<&str> = talk.split(':').collect();
+            let [replies, reply, told, report] = fields[..] else {
+                panic!("not a talk: {talk}");
+            };
+            let mut replies: Vec<u8> = replies.bytes().map(|digit| digit - b'0').collect();
+            let before = numbers(replies.iter().copied());
+            let told = telling(told);
+            let report = match report {
+                "ok" => {
+                    replies.push(reply.parse().expect("a reply"));
+                    format!("(gives {})", numbers(replies.into_iter()))
+                }
+                refusal => format!("(refused {refusal})"),
+            };
+            self.claim(
+                format!("talk-{number}-{index}"),
+                format!("Talks {sheet} {before} {reply} {told} {report}"),
+                "onAccepted told reported reading",
+                "(refl, refl)",
+            );
+        }
+    }
+
+    fn checks(&mut self, number: usize, sheet: &str, checks: &str) {
+        for (index, check) in parts(checks) {
+            let (trace, said) = check.split_once(':').expect("a checked trace");
+            let said = match said {
+                "yes" => "gives true".to_string(),
+                "no" => "gives false".to_string(),
+                refusal => format!("refused {refusal}"),
+            };
+            self.claim(
+                format!("check-{number}-{index}"),
+                format!("checked {sheet} {} ≡ {said}", byte_list(trace)),
+                "checked",
+                "refl",
+            );
+        }
+    }
+
+    fn record(&mut self, number: usize, record: &Record, told: &str, reports: &str) {
+        let before = record.text();
+        let told = match told.parse::<u8>() {
+            Ok(refusal) => format!("refused {refusal}"),
+            Err(_) => format!("gives {}", telling(told)),
         };
-        let statement = format!("checked {bytes} {} ≡ {said}", byte_list(trace));
-        claim(
-            format!("check-{number}-{index}"),
-            statement,
-            "checked",
+        self.claim(
+            format!("next-{number}"),
+            format!("nextOn {before} ≡ {told}"),
+            "nextOn padded",
             "refl",
         );
+        for (index, report) in parts(reports) {
+            let (reply, report) = report.split_once(':').expect("a report");
+            let (answer, after) = match report {
+                "ok" => {
+                    let after = record.with(reply.parse().expect("a reply"));
+                    let replies = numbers(after.replies.iter().copied());
+                    (format!("gives {replies}"), after.text())
+                }
+                refusal => (format!("refused {refusal}"), before.clone()),
+            };
+            self.claim(
+                format!("report-{number}-{index}"),
+                format!("reportOn {before} {reply} ≡ {answer}"),
+                "reportOn padded",
+                "refl",
+            );
+            self.claim(
+                format!("after-{number}-{index}"),
+                format!("recordAfter {before} {reply} ≡ {after}"),
+                "recordAfter padded",
+                "refl",
+            );
+        }
     }
-    count
+}
+
+/// A record; zeros follow the bytes.
+struct Record<'a> {
+    sheet: String,
+    length: &'a str,
+    replies: Vec<u8>,
+    count: usize,
+}
+
+impl Record<'_> {
+    /// With one reply more, behind those that the record has.
+    fn with(&self, reply: u8) -> Record<'_> {
+        let mut replies = self.replies.clone();
+        replies.resize(self.count, 0);
+        replies.push(reply);
+        Record {
+            sheet: self.sheet.clone(),
+            count: replies.len(),
+            replies,
+            ..*self
+        }
+    }
+
+    fn text(&self) -> String {
+        format!(
+            "(record {{ sheet = padded mostBytes {}; len = {}; replies = padded mostActs {}; count = {} }})",
+            self.sheet,
+            self.length,
+            numbers(self.replies.iter().copied()),
+            self.count
+        )
+    }
+}
+
+/// The parts of a list, with their numbers.
+fn parts(list: &str) -> impl Iterator<Item = (usize, &str)> {
+    list.split(',').filter(|part| !part.is_empty()).enumerate()
+}
+
+/// What "Next" tells.
+fn telling(told: &str) -> String {
+    match told {
+        "e1" => "(at-end true)".to_string(),
+        "e0" => "(at-end false)".to_string(),
+        action => format!("(to-do {})", &action[1..]),
+    }
 }
 
 fn verdict(answer: &str) -> String {
     match answer.split_once(' ').expect("an answer") {
         ("refused", number) => format!("(refused {number})"),
-        (verdict, values) => format!("(accepted ({verdict} {values}))"),
+        (verdict, values) => format!("(gives ({verdict} {values}))"),
     }
 }
 
@@ -194,11 +289,14 @@ fn printed(answer: &str, trace: &str) -> String {
     }
 }
 
+fn bytes(hex: &str) -> Vec<u8> {
+    (0..hex.len() / 2)
+        .map(|i| u8::from_str_radix(&hex[2 * i..2 * i + 2], 16).expect("hexadecimal"))
+        .collect()
+}
+
 fn byte_list(hex: &str) -> String {
-    numbers(
-        (0..hex.len() / 2)
-            .map(|i| u8::from_str_radix(&hex[2 * i..2 * i + 2], 16).expect("hexadecimal")),
-    )
+    numbers(bytes(hex).into_iter())
 }
 
 fn numbers(values: impl Iterator<Item = u8>) -> String {

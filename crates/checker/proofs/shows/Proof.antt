@@ -9,7 +9,9 @@ use lib.ListN.{length, drop}
 use denote.Ref.{now}
 use borrow.Author.Needs.{needs}
 use borrow.Author.Tests.{not-true, not-false}
+use Rattle.routine.specs.Memory.{nodeMost}
 use Rattle.states.specs.declared.States.{States}
+use Rattle.semantics.specs.Verdict.{longestTrace}
 use Rattle.semantics.specs.Checker.{isTraceLength}
 use Rattle.progression.specs.declared.place.Place.{Place}
 use Rattle.progression.specs.Machine.{settled, Inside}
@@ -51,7 +53,7 @@ left c =
 abbrev whole : AtLoop → Bool
 whole c = showsBy (now (start c .args .heads)) (now (start c .args .nodes)) (now (start c .args .sets)) (start c .args .start) (trace c)
 
-short : (c : AtLoop) → length (trace c) ≤ 129
+short : (c : AtLoop) → length (trace c) ≤ longestTrace
 short c = omega (arith, c .before .before .before .before .before .if2 .left)
 
 what-is-left : (c : AtLoop) → isTraceLength (length (trace c)) && whole c ≡ left c
@@ -81,7 +83,7 @@ action c = c .node .given .0 .1 .0
 settles : (c : Acting) → settled (now (start (head c) .args .nodes)) (now (start (head c) .args .sets)) (head c .loop .set) (head c .loop .at) ≡ Place.Act (node c) (action c)
 settles c = sym (c .before .before .settle .ensures .0) ∙ c .node .given .1
 
-inside : (c : Acting) → node c < 2048
+inside : (c : Acting) → node c < nodeMost
 unfolding Inside
 inside c = let i : Inside (Place.Act (node c) (action c)) = subst Inside (c .node .given .1) (c .before .before .settle .ensures .1) in i .0
 

@@ -1,7 +1,6 @@
 -- `exports::answer_number` meets its contract: one equation for each answer. Assumes nothing.
 use mathlib.Core.Path.{sym, ap, _∙_}
-use Rattle.reader.specs.Answers.{answerOf}
-use Rattle.exports.specs.Numbers.{numberFor}
+use Rattle.reader.specs.Answers.{answerOf, numberFor}
 use borrow.Author.Needs.{needs}
 use Rattle.exports.proofs.answer_number.Statement.{statement}
 use Rattle.exports.proofs.answer_number.Tie as tie

@@ -18,8 +18,8 @@ number-requires c κs = search needs
 enum-known-set : tie.Need-enum-known-set
 enum-known-set c = search needs
 
-put-words-requires : tie.Need-put-words-requires
-put-words-requires c κs = search needs
+words-requires : tie.Need-words-requires
+words-requires c κs = search needs
 
 returns : tie.Need-returns
 unfolding preparedOf
@@ -32,9 +32,9 @@ returns c =
 returns-2 : tie.Need-returns-2
 unfolding preparedOf
 returns-2 c =
-    let p = c .before .before .before .before .before .prepare .ensures in
-    let e = sym (ap preparedOf (c .before .before .before .set .given .1)) ∙ p .0 in
-    let l = tables-ready _ _ e _ _ (c .put-words .ensures) in
+    let p = c .before .before .before .before .prepare .ensures in
+    let e = sym (ap preparedOf (c .before .before .set .given .1)) ∙ p .0 in
+    let l = tables-ready _ _ e _ _ (c .words .ensures) in
     (l .0, p .1, p .2, p .3, l .1)
 
 pub recovery-prepare-spec : {M : Type 1} → statement M
@@ -45,6 +45,6 @@ recovery-prepare-spec =
     enum-known-r
     number-requires
     enum-known-set
-    put-words-requires
+    words-requires
     returns
     returns-2)

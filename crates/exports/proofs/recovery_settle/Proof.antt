@@ -2,6 +2,7 @@
 use Prim.Native.Nat.{_<_}
 use mathlib.Core.Path.{subst, ap, _∙_}
 use native.Mathlib.Omega.{arith}
+use Rattle.routine.specs.Memory.{nodeMost}
 use Rattle.progression.specs.declared.place.Place.{Place}
 use Rattle.progression.specs.Machine.{Inside}
 use Rattle.exports.specs.Numbers.{placeNumber}
@@ -10,8 +11,8 @@ use borrow.Author.Needs.{needs}
 use Rattle.exports.proofs.recovery_settle.Statement.{statement}
 use Rattle.exports.proofs.recovery_settle.Tie as tie
 
-lent-set-requires : tie.Need-lent-set-requires
-lent-set-requires c κs = search needs
+of-words-requires : tie.Need-of-words-requires
+of-words-requires c κs = search needs
 
 settle-requires : tie.Need-settle-requires
 settle-requires c κs = search needs
@@ -23,7 +24,7 @@ enum-known-node : tie.Need-enum-known-node
 enum-known-node c = search needs
 
 -- The node is one of the memory and its action a number of 16 bits.
-inside : (c : tie.After-known-told2) → (c .before .node .given .0 .0 < 2048) × (c .before .node .given .0 .1 .0 < 65536)
+inside : (c : tie.After-known-told2) → (c .before .node .given .0 .0 < nodeMost) × (c .before .node .given .0 .1 .0 < 65536)
 unfolding Inside
 inside c = subst Inside (c .before .node .given .1) (c .before .before .before .settle .ensures .1)
 
@@ -39,24 +40,24 @@ add-result-2 c = omega (arith, inside c)
 returns : tie.Need-returns
 unfolding placeNumber
 returns c =
-    ap placeNumber (place-settled _ _ _ _ _ _ _ (c .before .before .before .before .before .lent-set .ensures) (c .before .before .before .before .settle .ensures .0)
+    ap placeNumber (place-settled _ _ _ _ _ _ _ (c .before .before .before .before .before .of-words .ensures) (c .before .before .before .before .settle .ensures .0)
     (c .before .before .holds .given .1 ∙ ap Place.End (c .if1 .taken)))
 
 returns-2 : tie.Need-returns-2
 unfolding placeNumber
 returns-2 c =
-    ap placeNumber (place-settled _ _ _ _ _ _ _ (c .before .before .before .before .before .lent-set .ensures) (c .before .before .before .before .settle .ensures .0)
+    ap placeNumber (place-settled _ _ _ _ _ _ _ (c .before .before .before .before .before .of-words .ensures) (c .before .before .before .before .settle .ensures .0)
     (c .before .before .holds .given .1 ∙ ap Place.End (c .if1 .left)))
 
 returns-3 : tie.Need-returns-3
 unfolding placeNumber
-returns-3 c = ap placeNumber (place-settled _ _ _ _ _ _ _ (c .before .before .before .before .lent-set .ensures) (c .before .before .before .settle .ensures .0) (c .before .node .given .1))
+returns-3 c = ap placeNumber (place-settled _ _ _ _ _ _ _ (c .before .before .before .before .of-words .ensures) (c .before .before .before .settle .ensures .0) (c .before .node .given .1))
 
 pub recovery-settle-spec : {M : Type 1} → statement M
 recovery-settle-spec =
     tie.close
     (tie.spec
-    lent-set-requires
+    of-words-requires
     settle-requires
     enum-known-holds
     enum-known-node

@@ -8,6 +8,7 @@ use lib.Seq.{length-take-le}
 use Rattle.routine.specs.Memory.{write}
 use Rattle.routine.proofs.WriteLaws.{write-length}
 use borrow.Author.Needs.{needs}
+use Rattle.semantics.specs.Printing.{mostLines}
 use Rattle.planverify.proofs.main.Statement.{statement}
 use Rattle.planverify.proofs.main.Tie as tie
 
@@ -36,16 +37,16 @@ enum-told-2 : tie.Need-enum-told-2
 enum-told-2 c = search needs
 
 -- The lines fit the array, whose length stays.
-inside : (n : ℕ) (out lines written : List ℕ) → n ≤ 512 → written ≡ write out 0 lines → length out ≡ 512 → n ≤ length written
+inside : (n : ℕ) (out lines written : List ℕ) → n ≤ mostLines → written ≡ write out 0 lines → length out ≡ mostLines → n ≤ length written
 inside n out lines written l e k = omega (arith, l, k, ap length e, write-length out 0 lines)
 
 array-share-prefix-out : tie.Need-array-share-prefix-out
-array-share-prefix-out c = let p = c .before .lines-for in inside _ _ _ _ (p .ensures .2) (p .ensures .1) (length-replicate {A = ℕ} 512 0)
+array-share-prefix-out c = let p = c .before .lines-for in inside _ _ _ _ (p .ensures .2) (p .ensures .1) (length-replicate {A = ℕ} mostLines 0)
 
 slice-aggregate-write-all : tie.Need-slice-aggregate-write-all
 slice-aggregate-write-all c =
     let p = c .before .before .lines-for in
-    sym (length-take-le (p .result) (p .last .1 .1 .0) (inside _ _ _ _ (p .ensures .2) (p .ensures .1) (length-replicate {A = ℕ} 512 0)))
+    sym (length-take-le (p .result) (p .last .1 .1 .0) (inside _ _ _ _ (p .ensures .2) (p .ensures .1) (length-replicate {A = ℕ} mostLines 0)))
 
 write-all-requires : tie.Need-write-all-requires
 write-all-requires c κs = search needs

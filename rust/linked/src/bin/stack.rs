@@ -2,7 +2,7 @@
 //! sheet that needs the most of those below: formulas of every mix of levels up
 //! to the depth limit and one beyond it, where the sheet is refused, in every
 //! place, the longest programs, nested in every way, and the longest failing
-//! histories.
+//! histories. Then the same on a sheet of 9 bytes.
 //!
 //! A call runs on a stack of our own, painted before: what it takes is what is
 //! no longer painted, less what an empty call takes. x86-64 only, like the
@@ -10,7 +10,7 @@
 
 use std::arch::asm;
 
-use linked::{Record, Tables, Verdict, Words, LINES, REPLIES, SHEET};
+use linked::{Record, Tables, Verdict, Words, LINES, MEMO_WORDS, REPLIES, SHEET};
 use recovery::encode::encode;
 use recovery::read::read;
 use recovery::sheet::{
@@ -21,6 +21,8 @@ use recovery::sheet::{
 /// The size of the painted stack, and how much of it must stay painted.
 const STACK: usize = 1 << 20;
 const UNTOUCHED: usize = 1 << 16;
+
+const SAMPLE_1: [u8; 9] = [0x11, 0x0c, 0x90, 0x88, 0x1c, 0x40, 0x88, 0x20, 0x00];
 
 fn main() {
     let depths = [MAX_DEPTH, MAX_DEPTH + 1];
@@ -37,92 +39,172 @@ fn main() {
         sheets.push((format!("64 times action {action}, failing"), sheet));
     }
     let mut tables = Tables::zeroed();
-    let mut start: Words = [0; 4];
-    let mut reading = Need::default();
-    let mut preparing = Need::default();
-    let mut stepping = Need::default();
-    let mut settling = Need::default();
-    let mut verifying = Need::default();
-    let mut checking = Need::default();
-    let mut printing = Need::default();
-    let mut loading = Need::default();
-    let mut telling = Need::default();
-    let mut reporting = Need::default();
+    let mut most = Needs::default();
     let mut refused = 0;
     for (name, sheet) in &sheets {
-        let bytes = encode(sheet);
-        let expected = read(&bytes).map_or_else(|refusal| refusal.number(), |_| 0);
+        if !most.add(name, &encode(sheet), &mut tables) {
+            refused += 1;
+        }
+    }
+    println!("{} sheets, {refused} of them refused", sheets.len());
+    println!("{:<19} {:>11}  sheet", "function", "stack bytes");
+    most.print();
+    let mut tiny = Needs::default();
+    tiny.add("sample 1, 9 bytes", &SAMPLE_1, &mut tables);
+    tiny.print();
+}
+
+/// The most stack of each function; of those that have a form in lent tables, of both.
+#[derive(Default)]
+struct Needs {
+    read: Need,
+    prepare: Need,
+    step: Need,
+    settle: Need,
+    print: Need,
+    verify: [Need; 2],
+    check: [Need; 2],
+    load: [Need; 2],
+    next: [Need; 2],
+    report: [Need; 2],
+}
+
+impl Needs {
+    /// Calls all functions on a sheet, and tells whether it is accepted.
+    fn add(&mut self, name: &str, bytes: &[u8], tables: &mut Tables) -> bool {
+        let sheet = read(bytes);
+        let expected = sheet
+            .as_ref()
+            .map_or_else(|refusal| refusal.number(), |_| 0);
+        let mut start: Words = [0; 4];
         let mut answers = [255; 2];
-        reading.add(name, &mut || answers[0] = linked::read(&bytes));
-        preparing.add(name, &mut || {
-            answers[1] = linked::prepare(&bytes, &mut tables, &mut start)
+        self.read
+            .add(name, &mut || answers[0] = linked::read(bytes));
+        self.prepare.add(name, &mut || {
+            answers[1] = linked::prepare(bytes, tables, &mut start)
         });
         assert_eq!(answers, [expected; 2], "{name}");
-        let mut memory = [0; MAX_TRACE];
-        let mut verdict = Err(0);
-        verifying.add(name, &mut || {
-            verdict = linked::verify(&bytes, u32::MAX, &mut memory)
-        });
-        let trace = match verdict {
-            Ok(Verdict::Invalid { length, .. }) => &memory[..1 + 2 * length],
-            _ => &memory,
-        };
-        let mut checked = Err(0);
-        checking.add(name, &mut || checked = linked::check(&bytes, trace));
+        if let Ok(sheet) = &sheet {
+            self.add_steps(name, sheet, tables, start);
+        }
         let mut out = [0; LINES];
         let mut length = 0;
-        printing.add(name, &mut || length = linked::print(&bytes, &mut out));
-        assert_eq!(verdict.err().unwrap_or(0), expected, "{name}");
-        assert_eq!(checked.err().unwrap_or(0), expected, "{name}");
+        self.print
+            .add(name, &mut || length = linked::print(bytes, &mut out));
         assert!(length > 0, "{name}");
-        let mut record = Record {
-            sheet: [0; SHEET],
-            replies: [0; REPLIES],
-            lengths: [0; 2],
-        };
-        let mut answer = 255;
-        loading.add(name, &mut || answer = linked::load(&bytes, &mut record));
-        assert_eq!(answer, expected, "{name}");
-        let mut told = [0; 2];
-        let mut answers = [255; 2];
-        telling.add(name, &mut || answers[0] = linked::next(&record, &mut told));
-        reporting.add(name, &mut || {
-            record.lengths[1] = 0;
-            answers[1] = linked::report(&mut record, 0);
-        });
-        let at_end = told[0] == 1;
-        match (expected, at_end) {
-            (0, false) => assert_eq!(answers, [0, 0], "{name}"),
-            (0, true) => assert_eq!(answers, [0, 32], "{name}"),
-            _ => assert_eq!(answers, [31, 31], "{name}"),
-        }
-        if expected != 0 {
-            refused += 1;
-            continue;
-        }
+        let [verify, check] = [&mut self.verify, &mut self.check];
+        verifier_calls(name, bytes, expected, tables, verify, check);
+        let [load, next, report] = [&mut self.load, &mut self.next, &mut self.report];
+        runner_calls(name, bytes, expected, tables, load, next, report);
+        expected == 0
+    }
+
+    fn add_steps(&mut self, name: &str, sheet: &Sheet, tables: &Tables, start: Words) {
         for action in 0..sheet.actions.len() {
             let mut set = start;
-            stepping.add(name, &mut || linked::step(&tables, &mut set, action, 0));
+            self.step
+                .add(name, &mut || linked::step(tables, &mut set, action, 0));
             assert_ne!(set, [0; 4], "{name}");
         }
         for set in [start, [0; 4]] {
             let mut place = None;
-            settling.add(name, &mut || place = Some(linked::settle(&tables, &set, 0)));
+            self.settle
+                .add(name, &mut || place = Some(linked::settle(tables, &set, 0)));
             assert!(place.is_some(), "{name}");
         }
     }
-    println!("{} sheets, {refused} of them refused", sheets.len());
-    println!("{:<17} {:>11}  sheet", "function", "stack bytes");
-    reading.print("recovery_read");
-    preparing.print("recovery_prepare");
-    stepping.print("recovery_step");
-    settling.print("recovery_settle");
-    verifying.print("recovery_verify");
-    checking.print("recovery_check");
-    printing.print("recovery_print");
-    loading.print("recovery_load");
-    telling.print("recovery_next");
-    reporting.print("recovery_report");
+
+    fn print(&self) {
+        self.read.print("recovery_read");
+        self.prepare.print("recovery_prepare");
+        self.step.print("recovery_step");
+        self.settle.print("recovery_settle");
+        self.print.print("recovery_print");
+        for (name, forms) in [
+            ("recovery_verify", &self.verify),
+            ("recovery_check", &self.check),
+            ("recovery_load", &self.load),
+            ("recovery_next", &self.next),
+            ("recovery_report", &self.report),
+        ] {
+            forms[0].print(name);
+            forms[1].print(&format!("{name}_in"));
+        }
+    }
+}
+
+/// The calls of the verifier and of the trace checker, and each in lent tables.
+fn verifier_calls(
+    name: &str,
+    bytes: &[u8],
+    expected: u8,
+    tables: &mut Tables,
+    verifying: &mut [Need; 2],
+    checking: &mut [Need; 2],
+) {
+    let mut memory = [0; MAX_TRACE];
+    let mut memo = [0; MEMO_WORDS];
+    let mut verdicts = [Err(255); 2];
+    verifying[0].add(name, &mut || {
+        verdicts[0] = linked::verify(bytes, u32::MAX, &mut memory)
+    });
+    verifying[1].add(name, &mut || {
+        verdicts[1] = linked::verify_in(bytes, u32::MAX, &mut memory, tables, &mut memo)
+    });
+    assert_eq!(verdicts[0], verdicts[1], "{name}");
+    assert_eq!(verdicts[0].err().unwrap_or(0), expected, "{name}");
+    let trace = match verdicts[0] {
+        Ok(Verdict::Invalid { length, .. }) => &memory[..1 + 2 * length],
+        _ => &memory,
+    };
+    let mut answers = [Err(255); 2];
+    checking[0].add(name, &mut || answers[0] = linked::check(bytes, trace));
+    checking[1].add(name, &mut || {
+        answers[1] = linked::check_in(bytes, trace, tables)
+    });
+    assert_eq!(answers[0], answers[1], "{name}");
+    assert_eq!(answers[0].err().unwrap_or(0), expected, "{name}");
+}
+
+/// The calls of the runner, and each in lent tables.
+fn runner_calls(
+    name: &str,
+    bytes: &[u8],
+    expected: u8,
+    tables: &mut Tables,
+    loading: &mut [Need; 2],
+    telling: &mut [Need; 2],
+    reporting: &mut [Need; 2],
+) {
+    let mut record = Record {
+        sheet: [0; SHEET],
+        replies: [0; REPLIES],
+        lengths: [0; 2],
+    };
+    let mut answers = [255; 2];
+    loading[0].add(name, &mut || answers[0] = linked::load(bytes, &mut record));
+    loading[1].add(name, &mut || {
+        answers[1] = linked::load_in(bytes, &mut record, tables)
+    });
+    assert_eq!(answers, [expected; 2], "{name}");
+    let mut told = [0; 2];
+    telling[0].add(name, &mut || answers[0] = linked::next(&record, &mut told));
+    telling[1].add(name, &mut || {
+        answers[1] = linked::next_in(&record, &mut told, tables)
+    });
+    let at_end = told[0] == 1;
+    let telling = if expected == 0 { 0 } else { 31 };
+    assert_eq!(answers, [telling; 2], "{name}");
+    reporting[0].add(name, &mut || {
+        record.lengths[1] = 0;
+        answers[0] = linked::report(&mut record, 0);
+    });
+    reporting[1].add(name, &mut || {
+        record.lengths[1] = 0;
+        answers[1] = linked::report_in(&mut record, 0, tables);
+    });
+    let reported = if expected == 0 && at_end { 32 } else { telling };
+    assert_eq!(answers, [reported; 2], "{name}");
 }
 
 /// The most stack that a call took, and with which sheet.
@@ -144,7 +226,7 @@ impl Need {
     }
 
     fn print(&self, name: &str) {
-        println!("{name:<17} {:>11}  {}", self.bytes, self.sheet);
+        println!("{name:<19} {:>11}  {}", self.bytes, self.sheet);
     }
 }
 

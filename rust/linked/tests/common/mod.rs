@@ -11,6 +11,7 @@ use recovery::encode::encode;
 use recovery::print::lines;
 use recovery::random::{damaged, good, Random, Size};
 use recovery::read::read;
+use recovery::records::wide;
 use recovery::sheet::{Action, Epistemic, Objective, Program, Sheet, MAX_BYTES, MAX_TRACE};
 use recovery::verify::{verify, Answer};
 
@@ -312,14 +313,6 @@ pub fn longest() -> [Vec<u8>; 2] {
         ..edges::plain()
     });
     [sheet, trace]
-}
-
-/// So many times "true", in a tree of few levels.
-fn wide(leaves: usize) -> Objective {
-    match leaves {
-        1 => Objective::True,
-        _ => wide(leaves / 2).and(wide(leaves - leaves / 2)),
-    }
 }
 
 /// A valid routine with a branch: a probe of the fact, so many histories on the one

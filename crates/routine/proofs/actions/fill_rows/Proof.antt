@@ -4,10 +4,10 @@ use mathlib.Core.Path.{_≡_, ap, _∙_}
 use mathlib.Core.List.{flatMap}
 use mathlib.Core.Bool.{true}
 use native.Mathlib.Omega.{arith}
-use Rattle.states.specs.Sets.{member}
+use Rattle.states.specs.Sets.{words, member}
 use Rattle.format.specs.Syntax.{Objective, change}
 use Rattle.format.specs.Standing.{ObjectiveAt}
-use Rattle.routine.specs.Memory.{write, words}
+use Rattle.routine.specs.Memory.{write}
 use Rattle.routine.specs.Tables.{rows}
 use Rattle.routine.proofs.ActionLaws.{rowOf, rowsFrom, rows-first, rows-next, rows-last}
 use Rattle.routine.proofs.actions.fill_rows.Statement.{statement}

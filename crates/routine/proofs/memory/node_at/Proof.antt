@@ -1,15 +1,15 @@
--- `routine::memory::node_at` meets its contract: each return by the law of its case (proofs/MemoryLaws.antt), and each number fits 16 bits, as what is read does. Assumes nothing.
-use borrow.Author.Needs.{needs}
-use mathlib.Core.Path.{_∙_}
+-- `routine::memory::node_at` meets its contract: each return by the law of its case (proofs/MemoryLaws.antt), and its numbers fit 16 bits, as what is read does. Assumes nothing.
+use mathlib.Core.Path.{sym, subst, _∙_}
 use native.Mathlib.Omega.{arith}
 use Rattle.routine.specs.Memory.{Small}
-use Rattle.routine.proofs.MemoryLaws.{node-act, node-test, node-jump, node-end, node-in, node-past}
+use Rattle.routine.proofs.MemoryLaws.{node-in, node-past, node-small}
+use borrow.Author.Needs.{needs}
 use Rattle.routine.proofs.memory.node_at.Statement.{statement}
 use Rattle.routine.proofs.memory.node_at.Tie as tie
 
 returns : tie.Need-returns
 unfolding Small
-returns c = (node-past _ _ (c .if1 .taken), tt)
+returns c = (node-past _ _ (c .if1 .taken), omega arith)
 
 mul-wide : tie.Need-mul-wide
 mul-wide c = search needs
@@ -53,48 +53,15 @@ element-copy-out-wide-3 c = search needs
 wide-requires-3 : tie.Need-wide-requires-3
 wide-requires-3 c κs = search needs
 
-mul-wide-7 : tie.Need-mul-wide-7
-mul-wide-7 c = search needs
-
-add-wide-3 : tie.Need-add-wide-3
-add-wide-3 c = search needs
-
-mul-wide-8 : tie.Need-mul-wide-8
-mul-wide-8 c = search needs
-
-element-copy-out-wide-4 : tie.Need-element-copy-out-wide-4
-element-copy-out-wide-4 c = search needs
-
-wide-requires-4 : tie.Need-wide-requires-4
-wide-requires-4 c κs = search needs
+node-of-requires : tie.Need-node-of-requires
+node-of-requires c κs = search needs
 
 returns-2 : tie.Need-returns-2
-unfolding Small
-returns-2 c = (
-  node-act _ _ _ _ (c .if2 .taken) ∙ node-in _ _ _ _ _ _ (omega arith) (c .before .before .before .before .before .before .before .wide .ensures .0) (c .before .before .before .before .before .wide2 .ensures .0) (c .before .before .before .wide3 .ensures .0) (c .before .wide4 .ensures .0),
-  c .before .before .before .before .before .wide2 .ensures .1,
-)
-
-returns-3 : tie.Need-returns-3
-unfolding Small
-returns-3 c = (
-  node-test _ _ _ _ (c .before .if2 .left) (c .if3 .taken) ∙ node-in _ _ _ _ _ _ (omega arith) (c .before .before .before .before .before .before .before .before .wide .ensures .0) (c .before .before .before .before .before .before .wide2 .ensures .0) (c .before .before .before .before .wide3 .ensures .0) (c .before .before .wide4 .ensures .0),
-  (c .before .before .before .before .before .before .wide2 .ensures .1, c .before .before .before .before .wide3 .ensures .1, c .before .before .wide4 .ensures .1),
-)
-
-returns-4 : tie.Need-returns-4
-unfolding Small
-returns-4 c = (
-  node-jump _ _ _ _ (c .before .before .if2 .left) (c .before .if3 .left) (c .if4 .taken) ∙ node-in _ _ _ _ _ _ (omega arith) (c .before .before .before .before .before .before .before .before .before .wide .ensures .0) (c .before .before .before .before .before .before .before .wide2 .ensures .0) (c .before .before .before .before .before .wide3 .ensures .0) (c .before .before .before .wide4 .ensures .0),
-  c .before .before .before .before .before .wide3 .ensures .1,
-)
-
-returns-5 : tie.Need-returns-5
-unfolding Small
-returns-5 c = (
-  node-end _ _ _ _ (c .before .before .if2 .left) (c .before .if3 .left) (c .if4 .left) ∙ node-in _ _ _ _ _ _ (omega arith) (c .before .before .before .before .before .before .before .before .before .wide .ensures .0) (c .before .before .before .before .before .before .before .wide2 .ensures .0) (c .before .before .before .before .before .wide3 .ensures .0) (c .before .before .before .wide4 .ensures .0),
-  tt,
-)
+returns-2 c =
+    let n = c .node-of .ensures in (
+      n ∙ node-in _ _ _ _ _ (omega arith) (c .before .before .before .before .before .wide .ensures .0) (c .before .before .before .wide2 .ensures .0) (c .before .wide3 .ensures .0),
+      subst Small (sym n) (node-small _ _ _ (c .before .before .before .wide2 .ensures .1) (c .before .wide3 .ensures .1)),
+    )
 
 pub node-at-spec : {M : Type 1} → statement M
 node-at-spec =
@@ -115,12 +82,5 @@ node-at-spec =
     mul-wide-6
     element-copy-out-wide-3
     wide-requires-3
-    mul-wide-7
-    add-wide-3
-    mul-wide-8
-    element-copy-out-wide-4
-    wide-requires-4
-    returns-2
-    returns-3
-    returns-4
-    returns-5)
+    node-of-requires
+    returns-2)

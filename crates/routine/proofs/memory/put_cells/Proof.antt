@@ -1,7 +1,6 @@
--- `routine::memory::put_cells` meets its contract: the four stores are the writing of the four numbers. Assumes nothing.
+-- `routine::memory::put_cells` meets its contract: the three stores are the writing of the three numbers. Assumes nothing.
+use Rattle.routine.proofs.WriteLaws.{three-stores}
 use borrow.Author.Needs.{needs}
-use mathlib.Core.Path.{refl}
-use Rattle.routine.specs.Memory.{write}
 use Rattle.routine.proofs.memory.put_cells.Statement.{statement}
 use Rattle.routine.proofs.memory.put_cells.Tie as tie
 
@@ -38,39 +37,14 @@ mul-nodes-5 c = search needs
 add-nodes-2 : tie.Need-add-nodes-2
 add-nodes-2 c = search needs
 
-add-nodes-3 : tie.Need-add-nodes-3
-add-nodes-3 c = search needs
-
 mul-nodes-6 : tie.Need-mul-nodes-6
 mul-nodes-6 c = search needs
 
 element-write-nodes-3 : tie.Need-element-write-nodes-3
 element-write-nodes-3 c = search needs
 
-cast-nodes-3 : tie.Need-cast-nodes-3
-cast-nodes-3 c = search needs
-
-mul-nodes-7 : tie.Need-mul-nodes-7
-mul-nodes-7 c = search needs
-
-add-nodes-4 : tie.Need-add-nodes-4
-add-nodes-4 c = search needs
-
-add-nodes-5 : tie.Need-add-nodes-5
-add-nodes-5 c = search needs
-
-add-nodes-6 : tie.Need-add-nodes-6
-add-nodes-6 c = search needs
-
-mul-nodes-8 : tie.Need-mul-nodes-8
-mul-nodes-8 c = search needs
-
-element-write-nodes-4 : tie.Need-element-write-nodes-4
-element-write-nodes-4 c = search needs
-
 returns : tie.Need-returns
-unfolding write
-returns c = refl
+returns c = three-stores _ _ _ _ _
 
 pub put-cells-spec : {M : Type 1} → statement M
 put-cells-spec =
@@ -87,14 +61,6 @@ put-cells-spec =
     cast-nodes-2
     mul-nodes-5
     add-nodes-2
-    add-nodes-3
     mul-nodes-6
     element-write-nodes-3
-    cast-nodes-3
-    mul-nodes-7
-    add-nodes-4
-    add-nodes-5
-    add-nodes-6
-    mul-nodes-8
-    element-write-nodes-4
     returns)

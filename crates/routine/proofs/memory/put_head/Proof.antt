@@ -1,7 +1,6 @@
 -- `routine::memory::put_head` meets its contract: the three stores are the writing of the head's numbers. Assumes nothing.
+use Rattle.routine.proofs.WriteLaws.{three-stores}
 use borrow.Author.Needs.{needs}
-use mathlib.Core.Path.{refl}
-use Rattle.routine.specs.Memory.{write}
 use Rattle.routine.proofs.memory.put_head.Statement.{statement}
 use Rattle.routine.proofs.memory.put_head.Tie as tie
 
@@ -41,9 +40,6 @@ mul-heads-5 c = search needs
 add-heads-2 : tie.Need-add-heads-2
 add-heads-2 c = search needs
 
-add-heads-3 : tie.Need-add-heads-3
-add-heads-3 c = search needs
-
 mul-heads-6 : tie.Need-mul-heads-6
 mul-heads-6 c = search needs
 
@@ -51,8 +47,7 @@ element-write-heads-3 : tie.Need-element-write-heads-3
 element-write-heads-3 c = search needs
 
 returns : tie.Need-returns
-unfolding write
-returns c = refl
+returns c = three-stores _ _ _ _ _
 
 pub put-head-spec : {M : Type 1} → statement M
 put-head-spec =
@@ -70,7 +65,6 @@ put-head-spec =
     cast-heads-3
     mul-heads-5
     add-heads-2
-    add-heads-3
     mul-heads-6
     element-write-heads-3
     returns)

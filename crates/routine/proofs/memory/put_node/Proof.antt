@@ -1,26 +1,13 @@
 -- `routine::memory::put_node` meets its contract: the numbers that `put_cells` writes are those of the node. Assumes nothing.
 use borrow.Author.Needs.{needs}
-use Prim.Native.Nat.{ℕ, _<_}
+use Prim.Native.Nat.{ℕ}
 use mathlib.Core.List.{List}
-use mathlib.Core.Path.{_≡_, ap, _∙_}
+use mathlib.Core.Path.{_≡_, subst}
 use native.Mathlib.Omega.{arith}
 use Rattle.routine.specs.declared.memory.Node.{Node}
 use Rattle.routine.specs.Memory.{write, cells, Small}
 use Rattle.routine.proofs.memory.put_node.Statement.{statement}
 use Rattle.routine.proofs.memory.put_node.Tie as tie
-
--- The numbers of a node that fits 16 bits.
-small-act : (node : Node) (a : ℕ) → node ≡ Node.Act a → Small node → a < 65536
-unfolding Small
-small-act node a e s = rw e at s
-
-small-test : (node : Node) (k met unmet : ℕ) → node ≡ Node.Test k met unmet → Small node → (k < 65536) × (met < 65536) × (unmet < 65536)
-unfolding Small
-small-test node k met unmet e s = rw e at s
-
-small-jump : (node : Node) (skip : ℕ) → node ≡ Node.Jump skip → Small node → skip < 65536
-unfolding Small
-small-jump node skip e s = rw e at s
 
 -- A node is written as what it is equal to.
 cells-same : (before after : List ℕ) (at : ℕ) (node same : Node) → node ≡ same → after ≡ write before at (cells same) → after ≡ write before at (cells node)
@@ -30,28 +17,57 @@ enum-known-node : tie.Need-enum-known-node
 enum-known-node c = search needs
 
 put-cells-requires : tie.Need-put-cells-requires
-put-cells-requires c κs = (c .before .before .before .before .pre .0, small-act _ _ (c .before .before .node .given .1) (c .before .before .before .before .pre .1), omega arith, omega arith)
+unfolding Small
+put-cells-requires c κs = let s = subst Small (c .before .before .node .given .1) (c .before .before .before .before .pre .1) in (c .before .before .before .before .pre .0, s .0, s .1)
 
 enum-known-node-2 : tie.Need-enum-known-node-2
 enum-known-node-2 c = search needs
 
 put-cells-requires-2 : tie.Need-put-cells-requires-2
-put-cells-requires-2 c κs = let s = small-test _ _ _ _ (c .before .before .node2 .given .1) (c .before .before .before .before .pre .1) in (c .before .before .before .before .pre .0, s .0, s .1, s .2)
+unfolding Small
+put-cells-requires-2 c κs = let s = subst Small (c .before .before .node2 .given .1) (c .before .before .before .before .pre .1) in (c .before .before .before .before .pre .0, s .0, s .1)
 
 enum-known-node-3 : tie.Need-enum-known-node-3
 enum-known-node-3 c = search needs
 
 put-cells-requires-3 : tie.Need-put-cells-requires-3
-put-cells-requires-3 c κs = (c .before .before .before .before .pre .0, omega arith, small-jump _ _ (c .before .before .node3 .given .1) (c .before .before .before .before .pre .1), omega arith)
+unfolding Small
+put-cells-requires-3 c κs = (c .before .before .before .before .pre .0, subst Small (c .before .before .node3 .given .1) (c .before .before .before .before .pre .1), omega arith)
 
 enum-known-node-4 : tie.Need-enum-known-node-4
 enum-known-node-4 c = search needs
 
 put-cells-requires-4 : tie.Need-put-cells-requires-4
-put-cells-requires-4 c κs = search needs
+unfolding Small
+put-cells-requires-4 c κs = (c .before .before .before .before .pre .0, subst Small (c .before .before .node4 .given .1) (c .before .before .before .before .pre .1), omega arith)
+
+enum-known-node-5 : tie.Need-enum-known-node-5
+enum-known-node-5 c = search needs
 
 put-cells-requires-5 : tie.Need-put-cells-requires-5
-put-cells-requires-5 c κs = search needs
+unfolding Small
+put-cells-requires-5 c κs = (c .before .before .before .before .pre .0, subst Small (c .before .before .node5 .given .1) (c .before .before .before .before .pre .1), omega arith)
+
+enum-known-node-6 : tie.Need-enum-known-node-6
+enum-known-node-6 c = search needs
+
+put-cells-requires-6 : tie.Need-put-cells-requires-6
+unfolding Small
+put-cells-requires-6 c κs = (c .before .before .before .before .pre .0, subst Small (c .before .before .node6 .given .1) (c .before .before .before .before .pre .1), omega arith)
+
+enum-known-node-7 : tie.Need-enum-known-node-7
+enum-known-node-7 c = search needs
+
+put-cells-requires-7 : tie.Need-put-cells-requires-7
+unfolding Small
+put-cells-requires-7 c κs = (c .before .before .before .before .pre .0, subst Small (c .before .before .node7 .given .1) (c .before .before .before .before .pre .1), omega arith)
+
+enum-known-node-8 : tie.Need-enum-known-node-8
+enum-known-node-8 c = search needs
+
+put-cells-requires-8 : tie.Need-put-cells-requires-8
+unfolding Small
+put-cells-requires-8 c κs = (c .before .before .before .before .pre .0, subst Small (c .before .before .node8 .given .1) (c .before .before .before .before .pre .1), omega arith)
 
 returns : tie.Need-returns
 unfolding cells
@@ -67,27 +83,23 @@ returns-3 c = cells-same _ _ _ _ _ (c .before .before .before .node3 .given .1) 
 
 returns-4 : tie.Need-returns-4
 unfolding cells
-returns-4 c = cells-same _ _ _ _ _ (c .before .before .before .before .node4 .given .1 ∙ ap Node.End (c .before .before .if1 .taken)) (c .put-cells4 .ensures)
+returns-4 c = cells-same _ _ _ _ _ (c .before .before .before .node4 .given .1) (c .put-cells4 .ensures)
 
 returns-5 : tie.Need-returns-5
 unfolding cells
-returns-5 c = cells-same _ _ _ _ _ (c .before .before .before .before .node4 .given .1 ∙ ap Node.End (c .before .before .if1 .left)) (c .put-cells5 .ensures)
+returns-5 c = cells-same _ _ _ _ _ (c .before .before .before .node5 .given .1) (c .put-cells5 .ensures)
+
+returns-6 : tie.Need-returns-6
+unfolding cells
+returns-6 c = cells-same _ _ _ _ _ (c .before .before .before .node6 .given .1) (c .put-cells6 .ensures)
+
+returns-7 : tie.Need-returns-7
+unfolding cells
+returns-7 c = cells-same _ _ _ _ _ (c .before .before .before .node7 .given .1) (c .put-cells7 .ensures)
+
+returns-8 : tie.Need-returns-8
+unfolding cells
+returns-8 c = cells-same _ _ _ _ _ (c .before .before .before .node8 .given .1) (c .put-cells8 .ensures)
 
 pub put-node-spec : {M : Type 1} → statement M
-put-node-spec =
-    tie.close
-    (tie.spec
-    enum-known-node
-    put-cells-requires
-    enum-known-node-2
-    put-cells-requires-2
-    enum-known-node-3
-    put-cells-requires-3
-    enum-known-node-4
-    put-cells-requires-4
-    put-cells-requires-5
-    returns
-    returns-2
-    returns-3
-    returns-4
-    returns-5)
+put-node-spec = tie.close (tie.spec enum-known-node put-cells-requires enum-known-node-2 put-cells-requires-2 enum-known-node-3 put-cells-requires-3 enum-known-node-4 put-cells-requires-4 enum-known-node-5 put-cells-requires-5 enum-known-node-6 put-cells-requires-6 enum-known-node-7 put-cells-requires-7 enum-known-node-8 put-cells-requires-8 returns returns-2 returns-3 returns-4 returns-5 returns-6 returns-7 returns-8)

@@ -1,7 +1,7 @@
 -- `routine::memory::put_set` meets its contract: the four stores are the writing of the set's words. Assumes nothing.
+use Rattle.states.specs.Sets.{words}
+use Rattle.routine.proofs.WriteLaws.{four-stores}
 use borrow.Author.Needs.{needs}
-use mathlib.Core.Path.{refl}
-use Rattle.routine.specs.Memory.{write, words}
 use Rattle.routine.proofs.memory.put_set.Statement.{statement}
 use Rattle.routine.proofs.memory.put_set.Tie as tie
 
@@ -32,9 +32,6 @@ mul-sets-5 c = search needs
 add-sets-2 : tie.Need-add-sets-2
 add-sets-2 c = search needs
 
-add-sets-3 : tie.Need-add-sets-3
-add-sets-3 c = search needs
-
 mul-sets-6 : tie.Need-mul-sets-6
 mul-sets-6 c = search needs
 
@@ -44,14 +41,8 @@ element-write-sets-3 c = search needs
 mul-sets-7 : tie.Need-mul-sets-7
 mul-sets-7 c = search needs
 
-add-sets-4 : tie.Need-add-sets-4
-add-sets-4 c = search needs
-
-add-sets-5 : tie.Need-add-sets-5
-add-sets-5 c = search needs
-
-add-sets-6 : tie.Need-add-sets-6
-add-sets-6 c = search needs
+add-sets-3 : tie.Need-add-sets-3
+add-sets-3 c = search needs
 
 mul-sets-8 : tie.Need-mul-sets-8
 mul-sets-8 c = search needs
@@ -60,8 +51,8 @@ element-write-sets-4 : tie.Need-element-write-sets-4
 element-write-sets-4 c = search needs
 
 returns : tie.Need-returns
-unfolding write words
-returns c = refl
+unfolding words
+returns c = four-stores _ _ _ _ _ _
 
 pub put-set-spec : {M : Type 1} → statement M
 put-set-spec =
@@ -76,13 +67,10 @@ put-set-spec =
     element-write-sets-2
     mul-sets-5
     add-sets-2
-    add-sets-3
     mul-sets-6
     element-write-sets-3
     mul-sets-7
-    add-sets-4
-    add-sets-5
-    add-sets-6
+    add-sets-3
     mul-sets-8
     element-write-sets-4
     returns)

@@ -1,15 +1,17 @@
 -- `walk::follow` meets its contract. The loop's invariant: all replies lead where those that are left lead from the set and the node reached.
 -- The measure is the number of replies that are left. Assumes nothing.
 use Prim.Native.Nat.{ℕ, _-_, _<_, _≤_}
-use mathlib.Core.Path.{_≡_, refl, sym, subst, _∙_}
+use mathlib.Core.Path.{_≡_, refl, sym, ap, subst, _∙_}
 use mathlib.Core.List.{List}
 use native.Mathlib.Omega.{arith}
 use lib.ListN.{length, drop}
 use denote.Ref.{now}
 use borrow.Author.Needs.{needs}
+use Rattle.format.specs.Format.{gives}
+use Rattle.routine.specs.Memory.{nodeMost}
 use Rattle.progression.specs.declared.place.Place.{Place}
 use Rattle.progression.specs.Machine.{settled, Inside}
-use Rattle.runner.specs.Walks.{standAt, standsFrom}
+use Rattle.runner.specs.Walks.{walkedOf, standsFrom}
 use Rattle.runner.proofs.StandLaws.{ends-before, no-state, steps-on, all-read}
 use Rattle.runner.proofs.walk.follow.Statement.{statement}
 use Rattle.runner.proofs.walk.follow.Tie as tie
@@ -59,7 +61,7 @@ action c = c .node .given .0 .1 .0
 settles : (c : Acting) → settled (now (start (head c) .args .nodes)) (now (start (head c) .args .sets)) (head c .loop .set) (head c .loop .at) ≡ Place.Act (node c) (action c)
 settles c = sym (c .before .before .settle .ensures .0) ∙ c .node .given .1
 
-inside : (c : Acting) → node c < 2048
+inside : (c : Acting) → node c < nodeMost
 unfolding Inside
 inside c = let i : Inside (Place.Act (node c) (action c)) = subst Inside (c .node .given .1) (c .before .before .settle .ensures .1) in i .0
 
@@ -76,9 +78,10 @@ enum-known-holds : tie.Need-enum-known-holds Inv-loop μ-loop
 enum-known-holds c = search needs
 
 returns : tie.Need-returns Inv-loop μ-loop
+unfolding walkedOf
 returns c =
     let l = c .before .before .before .before .before .before in
-    sym (what-is-left l ∙ ends-before _ _ _ (replies l) (l .loop .set) _ _ (c .before .before .before .before .before .loop-test .taken) _ (sym (c .before .before .before .settle .ensures .0) ∙ c .before .holds .given .1))
+    ap gives (sym (what-is-left l ∙ ends-before _ _ _ (replies l) (l .loop .set) _ _ (c .before .before .before .before .before .loop-test .taken) _ (sym (c .before .before .before .settle .ensures .0) ∙ c .before .holds .given .1)))
 
 enum-known-node : tie.Need-enum-known-node Inv-loop μ-loop
 enum-known-node c = search needs
@@ -93,10 +96,11 @@ is-empty-requires : tie.Need-is-empty-requires Inv-loop μ-loop
 is-empty-requires c κs = search needs
 
 returns-2 : tie.Need-returns-2 Inv-loop μ-loop
+unfolding walkedOf
 returns-2 c =
     let a = c .before .before .before .before in
     let l = head a in
-    sym (what-is-left l ∙ no-state _ _ _ (replies l) (l .loop .set) _ _ (a .before .before .before .before .loop-test .taken) _ _ (settles a) _ (c .before .before .step .ensures) _ (c .before .is-empty .ensures) (c .if1 .taken))
+    ap gives (sym (what-is-left l ∙ no-state _ _ _ (replies l) (l .loop .set) _ _ (a .before .before .before .before .loop-test .taken) _ _ (settles a) _ (c .before .before .step .ensures) _ (c .before .is-empty .ensures) (c .if1 .taken)))
 
 add-at : tie.Need-add-at Inv-loop μ-loop
 add-at c = omega (arith, inside (c .before .before .before .before))
@@ -118,23 +122,11 @@ loop-again c =
 settle-requires-2 : tie.Need-settle-requires-2 Inv-loop μ-loop
 settle-requires-2 c κs = search needs
 
-enum-known-holds-2 : tie.Need-enum-known-holds-2 Inv-loop μ-loop
-enum-known-holds-2 c = search needs
-
-enum-known-node-2 : tie.Need-enum-known-node-2 Inv-loop μ-loop
-enum-known-node-2 c = search needs
-
 returns-3 : tie.Need-returns-3 Inv-loop μ-loop
-unfolding standAt
+unfolding walkedOf
 returns-3 c =
-    let l = c .before .before .before .before .before in
-    sym (what-is-left l ∙ all-read _ _ _ (replies l) (l .loop .set) (l .loop .at) (l .loop .k) _ (sym (c .before .before .before .settle2 .ensures .0) ∙ c .before .holds2 .given .1) (omega (arith, c .before .before .before .before .loop-test .left)))
-
-returns-4 : tie.Need-returns-4 Inv-loop μ-loop
-unfolding standAt
-returns-4 c =
-    let l = c .before .before .before .before .before in
-    sym (what-is-left l ∙ all-read _ _ _ (replies l) (l .loop .set) (l .loop .at) (l .loop .k) _ (sym (c .before .before .before .settle2 .ensures .0) ∙ c .before .node2 .given .1) (omega (arith, c .before .before .before .before .loop-test .left)))
+    let l = c .before .before in
+    ap gives (all-read _ _ _ (replies l) (l .loop .set) (l .loop .at) (l .loop .k) _ (c .settle2 .ensures .0) (omega (arith, c .before .loop-test .left)) ∙ sym (what-is-left l))
 
 pub follow-spec : {M : Type 1} → statement M
 follow-spec =
@@ -157,7 +149,4 @@ follow-spec =
     loop-less
     loop-again
     settle-requires-2
-    enum-known-holds-2
-    enum-known-node-2
-    returns-3
-    returns-4)
+    returns-3)

@@ -1,6 +1,6 @@
 -- `verifier::least::put_feasible` meets its contract: the four stores are the writing of the set's words. Assumes nothing.
-use mathlib.Core.Path.{refl}
-use Rattle.routine.specs.Memory.{write, words}
+use Rattle.states.specs.Sets.{words}
+use Rattle.routine.proofs.WriteLaws.{four-stores}
 use borrow.Author.Needs.{needs}
 use Rattle.verifier.proofs.least.put_feasible.Statement.{statement}
 use Rattle.verifier.proofs.least.put_feasible.Tie as tie
@@ -32,9 +32,6 @@ mul-feasible-5 c = search needs
 add-feasible-2 : tie.Need-add-feasible-2
 add-feasible-2 c = search needs
 
-add-feasible-3 : tie.Need-add-feasible-3
-add-feasible-3 c = search needs
-
 mul-feasible-6 : tie.Need-mul-feasible-6
 mul-feasible-6 c = search needs
 
@@ -44,14 +41,8 @@ element-write-feasible-3 c = search needs
 mul-feasible-7 : tie.Need-mul-feasible-7
 mul-feasible-7 c = search needs
 
-add-feasible-4 : tie.Need-add-feasible-4
-add-feasible-4 c = search needs
-
-add-feasible-5 : tie.Need-add-feasible-5
-add-feasible-5 c = search needs
-
-add-feasible-6 : tie.Need-add-feasible-6
-add-feasible-6 c = search needs
+add-feasible-3 : tie.Need-add-feasible-3
+add-feasible-3 c = search needs
 
 mul-feasible-8 : tie.Need-mul-feasible-8
 mul-feasible-8 c = search needs
@@ -60,8 +51,8 @@ element-write-feasible-4 : tie.Need-element-write-feasible-4
 element-write-feasible-4 c = search needs
 
 returns : tie.Need-returns
-unfolding write words
-returns c = refl
+unfolding words
+returns c = four-stores _ _ _ _ _ _
 
 pub put-feasible-spec : {M : Type 1} → statement M
 put-feasible-spec =
@@ -76,13 +67,10 @@ put-feasible-spec =
     element-write-feasible-2
     mul-feasible-5
     add-feasible-2
-    add-feasible-3
     mul-feasible-6
     element-write-feasible-3
     mul-feasible-7
-    add-feasible-4
-    add-feasible-5
-    add-feasible-6
+    add-feasible-3
     mul-feasible-8
     element-write-feasible-4
     returns)

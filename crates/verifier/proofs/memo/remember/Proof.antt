@@ -1,6 +1,7 @@
 -- `verifier::memo::remember` meets its contract: the eight stores are the writing of the slot's words. Assumes nothing.
 use mathlib.Core.Path.{refl}
-use Rattle.routine.specs.Memory.{write, words}
+use Rattle.states.specs.Sets.{words}
+use Rattle.routine.specs.Memory.{write}
 use Rattle.verifier.specs.Memo.{slotWords}
 use borrow.Author.Needs.{needs}
 use Rattle.verifier.proofs.memo.remember.Statement.{statement}

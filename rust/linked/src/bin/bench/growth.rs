@@ -101,8 +101,8 @@ pub fn rows(path: Option<String>) {
             places
                 .solid
                 .extend(point(grown.places as f64, grown.proved));
-            // The proved search without a memory, or else the one in Rust.
-            let without = grown.before.or(grown.tables);
+            // The search without a memory, in Rust.
+            let without = grown.tables;
             histories
                 .dashed
                 .extend(without.and_then(|time| point(count, time)));
@@ -164,7 +164,7 @@ fn measure(sheet: &Sheet) -> Grown {
     });
     let [proved, before, tables, prepare] = least([
         Some(call(linked::verify)),
-        BEFORE.map(call).filter(|_| count <= MOST_ONE_BY_ONE),
+        BEFORE.map(call),
         Some(over_tables).filter(|_| count <= MOST_ONE_BY_ONE),
         Some(prepare),
     ]);

@@ -2,32 +2,31 @@
 //!
 //! Each line gives the least time of a call for each, and the quotients. Run it
 //! in release mode; an argument chooses one of the sections "reading", "tables",
-//! "steps", "verifying", "growth" and "runner". Behind "growth" the path of a
-//! picture to write may follow. With the feature `before` the proved reader and
-//! verifier of an earlier commit are timed too.
+//! "steps", "verifying", "slowest", "lent", "growth" and "runner". Behind "growth"
+//! the path of a picture to write may follow. With the feature `before` the proved
+//! reader, settling, steps and verifier of an earlier commit are timed too.
 
+mod before;
 mod growth;
+mod lent;
 mod picture;
 mod reading;
 mod routines;
 mod sheets;
+mod slowest;
+mod steps;
 mod theories;
 mod verifying;
 
 use std::hint::black_box;
 use std::time::{Duration, Instant};
 
-use linked::{plain, Place, Tables, Words};
+use linked::{plain, Place, Tables};
 use recovery::encode::encode;
 use recovery::read::read;
 use recovery::runner::{Record, Told};
-use recovery::sheet::{Action, Epistemic, Objective, Program, Sheet};
-use recovery::states::{State, StateSet};
-use recovery::step::{gather, keep};
-use recovery::truth::holds_knowing;
 
 use routines::verified_sheets;
-use theories::{balanced, stays};
 
 /// The budget of `planverify`.
 const BUDGET: u32 = 1_000_000;
@@ -53,22 +52,19 @@ fn main() {
     }
     if wanted("steps") {
         println!("\nsteps and places, 8 facts");
-        println!(
-            "{:<28} {:>6} {:>9} {:>13} {:>15} {:>13} {:>15}",
-            "step",
-            "states",
-            "proved ns",
-            "Rust data ns",
-            "Rust tables ns",
-            "ratio to data",
-            "ratio to tables"
-        );
-        step_rows();
-        settle_rows();
+        steps::rows();
     }
     if wanted("verifying") {
         println!("\nverifying, 8 facts where none are named");
         verifying::rows();
+    }
+    if wanted("slowest") {
+        println!("\nsheets that verify slowly, 8 facts, a budget of 1,000,000");
+        verifying::slowest();
+    }
+    if wanted("lent") {
+        println!("\ntables of the call's own and lent ones, 8 facts where none are named");
+        lent::rows();
     }
     if wanted("growth") {
         println!("\ngrowth of the search, 8 facts where none are named");
@@ -105,135 +101,22 @@ fn prepare_row(name: &str, bytes: &[u8]) {
     );
 }
 
-/// The last set that a test of the goal names: the goal's sets are the last.
+/// The last set that a node "known" or "not known" names: these sets are the last.
 fn last_set(tables: &Tables) -> u16 {
-    let tests = tables.nodes.chunks(4).filter(|node| node[0] == 1);
-    tests.map(|node| node[1]).max().unwrap()
+    let atoms = tables
+        .nodes
+        .chunks(3)
+        .filter(|node| [5, 6].contains(&node[0]));
+    atoms.map(|node| node[1]).max().unwrap()
 }
 
-/// A sheet of 8 facts: a probe, a change, a program of one branch, and a goal of so many atoms.
-fn stepped_sheet(atoms: usize) -> Sheet {
-    let known = |i: u8| {
-        let fact = Objective::Fact(i % 8);
-        Epistemic::Known(fact.clone().or(fact.negate()))
-    };
-    let probe = Action::Probe(vec![Objective::Fact(0), Objective::Fact(0).negate()]);
-    Sheet {
-        edition: 1,
-        facts: 8,
-        actions: vec![probe, Action::Change(stays(8))],
-        start: Objective::True,
-        goal: balanced(&(0..atoms as u8).map(known).collect::<Vec<_>>()),
-        program: Program::branch(
-            known(0),
-            Program::act(0, Program::End),
-            Program::act(1, Program::End),
-            Program::End,
-        ),
-    }
-}
-
-fn tables_of(sheet: &Sheet) -> Tables {
-    let mut tables = Tables::zeroed();
-    let answer = linked::prepare(&encode(sheet), &mut tables, &mut [0; 4]);
-    assert_eq!(answer, 0);
-    tables
-}
-
-/// So many states, evenly spread.
-fn spread(count: usize) -> (StateSet, Words) {
-    let members = || (0..count).map(|i| (i * (256 / count)) as State);
-    (members().collect(), plain::words(members()))
-}
-
-fn step_rows() {
-    let sheet = stepped_sheet(1);
-    let tables = tables_of(&sheet);
-    for (name, number) in [("a probe", 0), ("a change", 1)] {
-        let action = &sheet.actions[number];
-        for count in [1, 16, 128, 256] {
-            let (possible, before) = spread(count);
-            // The probe's second reply: all the sets have a state without fact 0.
-            let reply = action.reply_count() - 1;
-            let proved = || {
-                let mut set = black_box(before);
-                linked::step(black_box(&tables), &mut set, number, usize::from(reply));
-                set
-            };
-            let data = || {
-                let gathered = gather(&sheet, action, black_box(&possible));
-                keep(action, reply, &gathered)
-            };
-            let rust = || {
-                let mut set = black_box(before);
-                plain::step(black_box(&tables), &mut set, number, usize::from(reply));
-                set
-            };
-            assert_eq!(proved(), plain::words(data().iter()));
-            assert_eq!(proved(), rust());
-            assert!(!data().is_empty());
-            step_row(name, count, proved, data, rust);
-        }
-    }
-}
-
-fn settle_rows() {
-    let atoms = 30;
-    let sheet = stepped_sheet(atoms);
-    let tables = tables_of(&sheet);
-    let Program::Branch { condition, .. } = &sheet.program else {
-        unreachable!()
-    };
-    // The branch's test, an action, a jump, an action; then the tests of the goal.
-    let places = [
-        ("a branch of one atom", 0, condition),
-        ("a goal of 30 atoms", 4, &sheet.goal),
-    ];
-    for (name, at, formula) in places {
-        for count in [1, 16, 128, 256] {
-            let (possible, set) = spread(count);
-            let proved = || linked::settle(black_box(&tables), black_box(&set), at);
-            let data = || holds_knowing(black_box(formula), black_box(&possible));
-            let rust = || plain::settle(black_box(&tables), black_box(&set), at);
-            assert!(data());
-            let expected = match at {
-                0 => Place::Act { node: 1, action: 0 },
-                _ => Place::End { goal: true },
-            };
-            assert_eq!(proved(), expected);
-            assert_eq!(rust(), expected);
-            step_row(name, count, proved, data, rust);
-        }
-    }
-}
-
-fn step_row<P, D, R>(
-    name: &str,
-    count: usize,
-    proved: impl Fn() -> P,
-    data: impl Fn() -> D,
-    rust: impl Fn() -> R,
-) {
-    let mut least = [f64::INFINITY; 3];
-    for _ in 0..7 {
-        least[0] = least[0].min(time(&proved));
-        least[1] = least[1].min(time(&data));
-        least[2] = least[2].min(time(&rust));
-    }
-    let [proved, data, rust] = least;
-    println!(
-        "{name:<28} {count:>6} {proved:>9.1} {data:>13.1} {rust:>15.1} {:>13.4} {:>15.2}",
-        proved / data,
-        proved / rust
-    );
-}
-
-/// "Next" and "Report" of the proved runner beside two in Rust: `recovery::runner`,
+/// Loading, "Next" and "Report" of the proved runner beside two in Rust: `recovery::runner`,
 /// which reads the sheet and steps over its tree (data), and `plain::follow` over
-/// the tables that the proved `prepare` makes in its time.
+/// the tables that the proved `prepare` makes in its time. `next_in` and `report_in`
+/// are the proved ones in lent tables.
 fn runner_rows() {
     println!(
-        "{:<54} {:>7} {:>6} {:>10} {:>10} {:>10} {:>8} {:>9}",
+        "{:<54} {:>7} {:>9} {:>10} {:>10} {:>10} {:>8} {:>9}",
         "sheet", "replies", "call", "proved us", "data us", "tables us", "to data", "to tables"
     );
     let wanted = [
@@ -274,11 +157,40 @@ fn runner_rows() {
             assert_eq!(linked::report(&mut after, reply), 0);
             after.lengths[1]
         };
+        // The same in lent tables.
+        let mut memory = Tables::zeroed();
+        let mut next_in = || {
+            let mut told = [0; 2];
+            assert_eq!(linked::next_in(black_box(&lent), &mut told, &mut memory), 0);
+            told
+        };
+        let mut memory = Tables::zeroed();
+        let mut report_in = || {
+            let mut after = black_box(&lent).clone();
+            assert_eq!(linked::report_in(&mut after, reply, &mut memory), 0);
+            after.lengths[1]
+        };
+        let load = || {
+            let mut loaded = black_box(&lent).clone();
+            assert_eq!(linked::load(black_box(bytes), &mut loaded), 0);
+            loaded.lengths[0]
+        };
+        let mut memory = Tables::zeroed();
+        let mut load_in = || {
+            let mut loaded = black_box(&lent).clone();
+            assert_eq!(
+                linked::load_in(black_box(bytes), &mut loaded, &mut memory),
+                0
+            );
+            loaded.lengths[0]
+        };
+        assert_eq!([load(), load_in()], [bytes.len(); 2]);
         let action = follow().0;
         assert_eq!(next(), [0, action]);
         assert_eq!(record.clone().next().1, Told::Action(action as u8));
         assert_eq!(report(), record.clone().report(reply).0.count);
-        let mut least = [f64::INFINITY; 5];
+        assert_eq!((next_in(), report_in()), (next(), report()));
+        let mut least = [f64::INFINITY; 10];
         for _ in 0..7 {
             let times = [
                 time(next),
@@ -286,18 +198,33 @@ fn runner_rows() {
                 time(report),
                 time(|| black_box(&record).clone().report(reply).1),
                 time(&mut follow),
+                time(&mut next_in),
+                time(&mut report_in),
+                time(load),
+                time(&mut load_in),
+                time(|| Record::load(black_box(bytes)).0.length),
             ];
             for (least, time) in least.iter_mut().zip(times) {
                 *least = least.min(time / 1000.0);
             }
         }
-        let [next, next_data, report, report_data, tables] = least;
-        for (call, proved, data) in [("next", next, next_data), ("report", report, report_data)] {
+        let [next, next_data, report, report_data, tables, next_in, report_in, load, load_in, load_data] =
+            least;
+        let follow = Some(tables);
+        for (call, proved, data, tables) in [
+            ("load", load, load_data, None),
+            ("load_in", load_in, load_data, None),
+            ("next", next, next_data, follow),
+            ("next_in", next_in, next_data, follow),
+            ("report", report, report_data, follow),
+            ("report_in", report_in, report_data, follow),
+        ] {
             println!(
-                "{name:<54} {:>7} {call:>6} {proved:>10.2} {data:>10.2} {tables:>10.2} {:>8.4} {:>9.2}",
+                "{name:<54} {:>7} {call:>9} {proved:>10.2} {data:>10.2} {:>10} {:>8.4} {:>9}",
                 record.count,
+                shown(tables, 2),
                 proved / data,
-                proved / tables
+                shown(tables.map(|tables| proved / tables), 2)
             );
         }
     }

@@ -9,7 +9,8 @@ use recovery::random::{good, Random, Size};
 use recovery::read::read;
 use recovery::sheet::{Action, Epistemic, Objective, Program, Sheet, MAX_ACTION_NODES, MAX_TRACE};
 
-use crate::sheets::most;
+use crate::sheets::{goal_of_atoms, most};
+use crate::slowest::slowest_sheet;
 use crate::theories::{all, balanced, stays, toggles};
 use crate::{BUDGET, SAMPLE_1};
 
@@ -158,13 +159,29 @@ pub fn verified_sheets() -> Vec<(&'static str, Sheet)> {
     ]
 }
 
+/// Sheets of 8 facts without an action: the program is its end.
+pub fn without_action() -> [(&'static str, Sheet); 2] {
+    let longest = read(&most(2000, goal_of_atoms)).unwrap();
+    [
+        ("no action, a goal of 1 atom", goal_of_atoms(1)),
+        ("no action, a goal of the most atoms", longest),
+    ]
+}
+
 /// Routines with more to do than those before, or a greater count.
 pub fn later_sheets() -> Vec<(String, Sheet, u32)> {
-    let mut sheets = vec![(
-        "7 probes of 8 replies, the most atoms in the goal".to_string(),
-        long_goal(),
-        BUDGET,
-    )];
+    let mut sheets = vec![
+        (
+            "7 probes of 8 replies, the most atoms in the goal".to_string(),
+            long_goal(),
+            BUDGET,
+        ),
+        (
+            "the same, no two of the 56 replies alike".to_string(),
+            slowest_sheet(),
+            BUDGET,
+        ),
+    ];
     let routine = Routine::new();
     let mut greatest = |name: String, sheet| sheets.push((name, sheet, u32::MAX));
     for probes in [30, 64] {

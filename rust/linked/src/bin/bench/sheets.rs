@@ -284,7 +284,7 @@ pub fn most(limit: usize, sheet: impl Fn(usize) -> Sheet) -> Vec<u8> {
     accepted.next().unwrap()
 }
 
-fn goal_of_atoms(count: usize) -> Sheet {
+pub fn goal_of_atoms(count: usize) -> Sheet {
     let mut sheet = sheet_of(8, vec![]);
     sheet.goal = balanced(&vec![Epistemic::Known(Objective::True); count]);
     sheet

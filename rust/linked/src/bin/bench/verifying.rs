@@ -11,7 +11,8 @@ use recovery::encode::encode;
 use recovery::sheet::MAX_TRACE;
 use recovery::verify::{verify, Answer};
 
-use crate::routines::{later_sheets, verified_sheets};
+use crate::routines::{later_sheets, verified_sheets, without_action};
+use crate::slowest::{atoms, slow_sheets};
 use crate::{least, shown, Call, BUDGET};
 
 pub type Verify = fn(&[u8], u32, &mut [u8]) -> Result<Verdict, u8>;
@@ -23,7 +24,7 @@ pub const BEFORE: Option<Verify> = Some(linked::verify_before);
 pub const BEFORE: Option<Verify> = None;
 
 /// With more histories a search one by one would take more than some seconds, and
-/// isn't run. (Over the tree a history takes up to some 50 µs; the sheets of the
+/// isn't run; the earlier commit is to be one whose search remembers. (Over the tree a history takes up to some 50 µs; the sheets of the
 /// sum are searched up to `BUDGET`, being quicker than that or having few.)
 const MOST_OVER_TABLES: u32 = 500_000_000;
 const MOST_OVER_TREE: u32 = 100_000;
@@ -37,6 +38,16 @@ struct Row {
     times: [Option<f64>; 5],
     /// Of the proved reading and tables alone, which are in all but that of the data.
     prepare: f64,
+}
+
+impl Row {
+    fn add(&mut self, row: Row) {
+        self.count += row.count;
+        for (sum, time) in self.times.iter_mut().zip(row.times) {
+            *sum = sum.zip(time).map(|(sum, time)| sum + time);
+        }
+        self.prepare += row.prepare;
+    }
 }
 
 pub fn rows() {
@@ -61,25 +72,78 @@ pub fn rows() {
         "proved",
         "tables"
     );
-    let mut total = Row {
+    let nothing = Row {
         count: 0.0,
         times: [Some(0.0); 5],
         prepare: 0.0,
     };
+    let [mut all, mut of_8_facts] = [nothing; 2];
     for (name, sheet) in verified_sheets() {
         let (verdict, row) = time_verifying(&encode(&sheet), BUDGET, BUDGET);
         print_row(name, verdict, row);
-        total.count += row.count;
-        for (sum, time) in total.times.iter_mut().zip(row.times) {
-            *sum = sum.zip(time).map(|(sum, time)| sum + time);
+        all.add(row);
+        if sheet.facts == 8 {
+            of_8_facts.add(row);
         }
-        total.prepare += row.prepare;
     }
-    print_row("all", "", total);
-    assert!(total.count >= 1e6);
+    print_row("all of 8 facts", "", of_8_facts);
+    print_row("all", "", all);
+    assert!(all.count >= 1e6);
+    for (name, sheet) in without_action() {
+        let (verdict, row) = time_verifying(&encode(&sheet), BUDGET, BUDGET);
+        print_row(name, verdict, row);
+    }
     for (name, sheet, budget) in later_sheets() {
         let (verdict, row) = time_verifying(&encode(&sheet), budget, MOST_OVER_TREE);
         print_row(&name, verdict, row);
+    }
+}
+
+/// The proved verifier on sheets that defeat its memory, and what it did there: one
+/// call each.
+pub fn slowest() {
+    println!(
+        "{:<60} {:>5} {:>7} {:>8} {:>9} {:>10} {:>10} {:>9} {:>9}",
+        "sheet",
+        "atoms",
+        "verdict",
+        "count",
+        "visited",
+        "now ms",
+        "before ms",
+        "to before",
+        "ns/atom"
+    );
+    for (name, sheet) in slow_sheets() {
+        let bytes = &encode(&sheet);
+        let atoms = atoms(&sheet.goal);
+        let (mut tables, mut start) = (Tables::zeroed(), [0; 4]);
+        assert_eq!(linked::prepare(bytes, &mut tables, &mut start), 0);
+        let (verdict, counts) =
+            plain::verify_counting(&tables, &start, BUDGET, &mut [0; MAX_TRACE]);
+        let call = |verify: Verify| -> Call {
+            Box::new(move || {
+                let found = verify(black_box(bytes), BUDGET, &mut [0; MAX_TRACE]);
+                assert_eq!(found, Ok(verdict));
+            })
+        };
+        let [now, before] = least([Some(call(linked::verify)), BEFORE.map(call)]);
+        let (word, count) = match verdict {
+            Verdict::Valid { count } => ("valid", count),
+            Verdict::Invalid { count, .. } => ("invalid", count),
+            Verdict::Stopped { budget } => ("stopped", budget),
+        };
+        println!(
+            "{name:<60} {atoms:>5} {word:>7} {count:>8} {:>9} {:>10} {:>10} {:>9} {:>9}",
+            counts.visited,
+            shown(now.map(|time| time / 1e6), 2),
+            shown(before.map(|time| time / 1e6), 2),
+            shown(now.zip(before).map(|(now, before)| now / before), 2),
+            shown(
+                now.map(|time| time / (counts.visited as f64 * atoms as f64)),
+                2
+            )
+        );
     }
 }
 
@@ -136,7 +200,7 @@ fn time_verifying(bytes: &[u8], budget: u32, most_over_tree: u32) -> (&'static s
     });
     let [proved, before, data, tables, memory, prepare] = least([
         Some(proved),
-        before.filter(|_| count <= MOST_OVER_TABLES),
+        before,
         Some(data).filter(|_| count <= most_over_tree),
         Some(over_tables).filter(|_| count <= MOST_OVER_TABLES),
         Some(remembering),
