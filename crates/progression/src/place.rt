@@ -59,7 +59,7 @@ fn holds(
     }
 }
 
-// The same of a first part. (An atom is evaluated in place, so that it takes no call.)
+// The same of a first part, which is often an atom. (That is looked for first, since it measured faster.)
 fn part_holds(
     nodes: &[u16; NODE_CELLS],
     sets: &[u64; SET_WORDS],
@@ -79,8 +79,8 @@ fn part_holds(
     }
 }
 
-// Whether the formula at node `at` holds where the states of a set are possible. (One of an atom alone is evaluated in
-// place.)
+// Whether the formula at node `at` holds where the states of a set are possible. (One of an atom alone needs no recursion,
+// and its set isn't copied into words.)
 fn formula_holds(nodes: &[u16; NODE_CELLS], sets: &[u64; SET_WORDS], set: States, at: usize) -> bool
     ensures { λ r. ⌜ r ≡ holdsAt (now (nodes .entry)) (knownBy (now (sets .entry)) set) deepest at ⌝ }
 {

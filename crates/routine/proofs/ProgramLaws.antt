@@ -14,8 +14,8 @@ use Rattle.routine.specs.declared.memory.Node.{Node}
 use Rattle.routine.specs.declared.conditions.Filled.{Filled}
 use Rattle.states.specs.Sets.{words}
 use Rattle.routine.specs.Memory.{write, cells, Small, nodeMost}
-use Rattle.routine.specs.Tables.{atoms, atomSets, formulaSize, formulaNodes, size, programAtoms, programSets, programNodes}
-use Rattle.routine.specs.Filling.{FormulaRoom, FormulaFills, FormulaWritten, behindFormula, ProgramRoom, ProgramFills, ProgramWritten, behindProgram, routineNodes, RoutineRoom}
+use Rattle.routine.specs.Tables.{atoms, atomSets, formulaSize, formulaNodes, size, programAtoms, programSets, programNodes, routineNodes}
+use Rattle.routine.specs.Filling.{FormulaRoom, FormulaFills, FormulaWritten, behindFormula, ProgramRoom, ProgramFills, ProgramWritten, behindProgram, RoutineRoom}
 use Rattle.routine.proofs.WriteLaws.{spread-one, spread-on, node-before, words-four, cells-three}
 use Rattle.routine.proofs.SizeLaws.{formula-length, atom-sets-length, nodes-length, program-sets-length}
 use Rattle.routine.proofs.ConditionLaws.{partsFrom}

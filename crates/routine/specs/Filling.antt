@@ -15,7 +15,7 @@ use Rattle.routine.specs.declared.memory.Node.{Node}
 use Rattle.routine.specs.declared.actions.Laid.{Laid}
 use Rattle.routine.specs.declared.conditions.Filled.{Filled}
 use Rattle.routine.specs.Memory.{write, cells, headMost, nodeMost, setMost}
-use Rattle.routine.specs.Tables.{rows, actionSets, headCells, atoms, atomSets, formulaSize, formulaNodes, size, programAtoms, programSets, programNodes}
+use Rattle.routine.specs.Tables.{rows, actionSets, headCells, atoms, atomSets, formulaSize, formulaNodes, size, programAtoms, programSets, programNodes, routineNodes}
 
 -- The head of an action is written as that of action a and its sets from set k on, and r is where they end.
 abbrev pub ActionWritten : (space : States) (a k : ℕ) (heads heads′ sets sets′ : List ℕ) (r : Laid) (x : Action) (q : ℕ) → Type 0
@@ -43,11 +43,6 @@ ProgramWritten from x q nodes nodes′ sets sets′ r =
     (r ≡ behindProgram from x q)
     × (nodes′ ≡ write nodes (3 * from .node) (flatMap cells (programNodes x (from .set) (from .acts))))
     × (sets′ ≡ write sets (4 * from .set) (flatMap words (programSets x)))
-
--- The nodes of a goal and a program: those of a sheet whose actions have k sets.
-abbrev pub routineNodes : (goal : Epistemic) (program : Program) (k : ℕ) → List Node
-routineNodes goal program k =
-    Node.Jump (formulaSize goal) ∷ (formulaNodes goal k ++ (programNodes program (k + atoms goal) 0 ++ (Node.End (actionNodes program) ∷ [])))
 
 module _ (bytes : List ℕ) (n : ℕ) where
   -- A position is where the theory at another ends.

@@ -119,14 +119,15 @@ sheetSets sheet = sheetActionSets sheet ++ (atomSets (sheet .goal) ++ programSet
 abbrev pub goalNode : ℕ
 goalNode = 1
 
--- The nodes of a sheet, in its order: a jump over the goal, which stands from node 1 on, the program, and the end.
+-- The nodes of a goal and a program, in the sheet's order, their sets from set k on: a jump over the goal, which stands from node 1 on, the program, and the end.
+abbrev pub routineNodes : (goal : Epistemic) (program : Program) (k : ℕ) → List Node
+routineNodes goal program k =
+    Node.Jump (formulaSize goal) ∷ (formulaNodes goal k ++ (programNodes program (k + atoms goal) 0 ++ (Node.End (actionNodes program) ∷ [])))
+
+-- The nodes of a sheet.
 unfoldable pub sheetNodes : Sheet → List Node
 unfolding sheetActionSets formulaNodes formulaSize atoms programNodes actionNodes
-sheetNodes sheet =
-    Node.Jump (formulaSize (sheet .goal))
-    ∷ (formulaNodes (sheet .goal) (length (sheetActionSets sheet))
-    ++ (programNodes (sheet .program) (length (sheetActionSets sheet) + atoms (sheet .goal)) 0
-    ++ (Node.End (actionNodes (sheet .program)) ∷ [])))
+sheetNodes sheet = routineNodes (sheet .goal) (sheet .program) (length (sheetActionSets sheet))
 
 -- The heads of a sheet's actions.
 unfoldable pub sheetHeads : Sheet → List ℕ
