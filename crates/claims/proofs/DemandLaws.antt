@@ -21,7 +21,7 @@ use Rattle.format.proofs.StateLaws.{state-byte}
 use Rattle.format.proofs.SheetLaws.{accepted-shape}
 use Rattle.semantics.specs.Runs.{Entry, entry, History, extended, replies, IsRun, lastState, Known, Holds, holdsAfter}
 use Rattle.semantics.specs.Routine.{perform, routine, Follows, isFull}
-use Rattle.semantics.specs.Verdict.{Verdict as Meant, historyCount, valid, invalid, stopped, Outcome, outcome, written, Verified, longestTrace, LongEnough, verified}
+use Rattle.semantics.specs.Verdict.{Verdict as Meant, historyCount, valid, invalid, stopped, Outcome, outcome, written, Verified, longestTrace, LongEnough, verified, shortMemory}
 use Rattle.semantics.specs.Checker.{checked}
 use Rattle.semantics.specs.Replies.{leftAfter}
 use Rattle.semantics.specs.Progression.{possible, startSet, setAfter}
@@ -65,7 +65,7 @@ verified-number bytes budget old enough k e = go (reading bytes) refl
     go (refused r) read = let d = e ∙ ap (λ (v : Verified). v .answer) (verified-refused bytes r read budget old enough) in cc
 
 -- Nothing but a short memory gets 30: no sheet is refused with it.
-only-short : (bytes : List ℕ) (budget : ℕ) (old : List ℕ) → refused 30 ≡ verified bytes budget old .answer → LongEnough old → ⊥
+only-short : (bytes : List ℕ) (budget : ℕ) (old : List ℕ) → shortMemory ≡ verified bytes budget old .answer → LongEnough old → ⊥
 only-short bytes budget old e enough = omega (arith, refused-number bytes 30 (verified-number bytes budget old enough 30 e) .1)
 
 not-long : (old : List ℕ) → (LongEnough old → ⊥) → length old < longestTrace

@@ -2,7 +2,7 @@
 use Prim.Native.Nat.{ℕ, zero, suc, _+_, _-_, _≤_, _<_}
 use mathlib.Core.Path.{_≡_, refl, sym, ap, _∙_}
 use mathlib.Core.List.{List, [], _∷_}
-use mathlib.Core.Bool.{Bool, true, false, not, _&&_, _||_}
+use mathlib.Core.Bool.{Bool, true, false, not, _&&_, Bool·beq}
 use mathlib.Core.Logic.{⊎-elim, inl, inr}
 use native.Mathlib.Omega.{arith}
 use types.Run.{OneOf}
@@ -18,10 +18,10 @@ use Rattle.format.specs.Format.{deepest}
 use Rattle.routine.specs.declared.memory.Node.{Node}
 use Rattle.routine.proofs.memory.Node.{the-type}
 use Rattle.routine.specs.Memory.{nodeMost, setAt, nodeAt}
-use Rattle.routine.proofs.MemoryLaws.{node-past}
+use Rattle.routine.proofs.MemoryLaws.{past}
 use Rattle.routine.specs.Tables.{goalNode}
 use Rattle.progression.specs.declared.place.Place.{Place}
-use Rattle.progression.specs.Machine.{knownBy, formulaNode, holdsAt, atNode, settledFrom, settled}
+use Rattle.progression.specs.Machine.{knownBy, atomHolds, joined, formulaNode, holdsAt, atNode, settledFrom, settled}
 
 -- What a node leads to, by where it leads on.
 atNode-same : (formula : ℕ → Bool) (node : Node) (i : ℕ) (f g : ℕ → Place) → ((skip : ℕ) → f skip ≡ g skip) → atNode formula node i f ≡ atNode formula node i g
@@ -30,10 +30,8 @@ atNode-same formula (Node.Act a number) i f g h = refl
 atNode-same formula (Node.Branch met unmet) i f g h = h (if formula (i + 1) then met else unmet)
 atNode-same formula (Node.Jump skip) i f g h = h skip
 atNode-same formula (Node.End count) i f g h = refl
-atNode-same formula (Node.All size) i f g h = refl
-atNode-same formula (Node.Any size) i f g h = refl
-atNode-same formula (Node.Known k) i f g h = refl
-atNode-same formula (Node.NotKnown k) i f g h = refl
+atNode-same formula (Node.Join all size) i f g h = refl
+atNode-same formula (Node.Atom positive k) i f g h = refl
 
 module _ (node : ℕ → Node) (formula : ℕ → Bool) where
   -- Skipping nodes is going on behind them.
@@ -72,10 +70,8 @@ module _ (node : ℕ → Node) (formula : ℕ → Bool) where
       go (Node.Branch met unmet) on h = further (if formula (i + 1) then met else unmet) (on (if formula (i + 1) then met else unmet) h)
       go (Node.Jump skip) on h = further skip (on skip h)
       go (Node.End count) on h = no-end (formula goalNode) h
-      go (Node.All size) on h = no-end false h
-      go (Node.Any size) on h = no-end false h
-      go (Node.Known k) on h = no-end false h
-      go (Node.NotKnown k) on h = no-end false h
+      go (Node.Join all size) on h = no-end false h
+      go (Node.Atom positive k) on h = no-end false h
 
   -- Where the program settles from node i on.
   abbrev pub goesTo : ℕ → Place
@@ -132,32 +128,64 @@ module _ (nodes : List ℕ) (isKnown : ℕ → Bool) where
       rw l (ap (formulaNode isKnown (λ skip. holdsAt nodes isKnown left (i + 1 + skip))) e)
   holds-by zero i h x e = absurd (omega arith)
 
-  -- "And" and "or", by what holds of their parts.
-  module _ (left i size : ℕ) (h : 0 < left) where
-    first-part : holdsAt nodes isKnown (left - 1) (i + 1 + 0) ≡ holdsAt nodes isKnown (left - 1) (i + 1)
-    first-part = let e : i + 1 + 0 ≡ i + 1 = omega arith in ap (holdsAt nodes isKnown (left - 1)) e
+  -- An atom; two parts.
+  pub atom-holds : (left i : ℕ) → 0 < left → (positive : Bool) (k : ℕ) → Node.Atom positive k ≡ nodeAt nodes i → atomHolds isKnown positive k ≡ holdsAt nodes isKnown left i
+  unfolding formulaNode
+  atom-holds left i h positive k e = holds-by left i h (Node.Atom positive k) e
 
-    pub all-holds : Node.All size ≡ nodeAt nodes i → (x y : Bool) → x ≡ holdsAt nodes isKnown (left - 1) (i + 1) → y ≡ holdsAt nodes isKnown (left - 1) (i + 1 + size) → (x && y) ≡ holdsAt nodes isKnown left i
-    unfolding formulaNode
-    all-holds e x y p q = rw (p, q, ← first-part) (holds-by left i h (Node.All size) e)
+  pub join-holds : (left i : ℕ) → 0 < left → (all : Bool) (size : ℕ) → Node.Join all size ≡ nodeAt nodes i
+      → joined all (holdsAt nodes isKnown (left - 1) (i + 1)) (holdsAt nodes isKnown (left - 1) (i + 1 + size)) ≡ holdsAt nodes isKnown left i
+  unfolding formulaNode
+  join-holds left i h all size e =
+      let first : i + 1 + 0 ≡ i + 1 = omega arith in
+      ap (λ (v : ℕ). joined all (holdsAt nodes isKnown (left - 1) v) (holdsAt nodes isKnown (left - 1) (i + 1 + size))) (sym first) ∙ holds-by left i h (Node.Join all size) e
 
-    pub any-holds : Node.Any size ≡ nodeAt nodes i → (x y : Bool) → x ≡ holdsAt nodes isKnown (left - 1) (i + 1) → y ≡ holdsAt nodes isKnown (left - 1) (i + 1 + size) → (x || y) ≡ holdsAt nodes isKnown left i
-    unfolding formulaNode
-    any-holds e x y p q = rw (p, q, ← first-part) (holds-by left i h (Node.Any size) e)
+  -- Where no level is left neither part holds.
+  pub none-joined : (left i j : ℕ) (all : Bool) → left ≡ 0 → false ≡ joined all (holdsAt nodes isKnown left i) (holdsAt nodes isKnown left j)
+  unfolding joined
+  none-joined left i j true e = rw (← holds-none left i e)
+  none-joined left i j false e = rw (← holds-none left i e, ← holds-none left j e)
+
+-- Two parts of which the first decides, or doesn't.
+pub first-decides : (all first x y : Bool) → not (Bool·beq first all) ≡ true → first ≡ x → first ≡ joined all x y
+unfolding joined
+first-decides true true x y n e = absurd (not-both n refl)
+first-decides true false x y n e = rw (← e)
+first-decides false true x y n e = rw (← e)
+first-decides false false x y n e = absurd (not-both n refl)
+
+pub second-decides : (all first x y : Bool) → not (Bool·beq first all) ≡ false → first ≡ x → y ≡ joined all x y
+unfolding joined
+second-decides true true x y n e = rw (← e)
+second-decides true false x y n e = absurd (not-both refl n)
+second-decides false true x y n e = absurd (not-both refl n)
+second-decides false false x y n e = rw (← e)
+
+-- An atom holds exactly if its flag says whether its formula is known.
+pub atom-known : (isKnown : ℕ → Bool) (positive : Bool) (k : ℕ) → Bool·beq (isKnown k) positive ≡ atomHolds isKnown positive k
+unfolding atomHolds
+atom-known isKnown true k = same (isKnown k)
+  where
+    same : (x : Bool) → Bool·beq x true ≡ x
+    same true = refl
+    same false = refl
+atom-known isKnown false k = other (isKnown k)
+  where
+    other : (x : Bool) → Bool·beq x false ≡ not x
+    other true = refl
+    other false = refl
 
 -- A node that isn't the end stands inside the memory.
 pub node-inside : (nodes : List ℕ) (i : ℕ) (x : Node) → x ≡ nodeAt nodes i → (x ≡ Node.End 0 → ⊥) → i < nodeMost
+unfolding nodeAt
 node-inside nodes i x e n = go (ltb i nodeMost) refl
   where
     go : (b : Bool) → ltb i nodeMost ≡ b → i < nodeMost
     go true t = ltb-true i nodeMost t
-    go false f = absurd (n (e ∙ sym (node-past nodes i (ltb-false i nodeMost f))))
+    go false f = absurd (n (e ∙ sym (past nodeMost i _ _ (ltb-false i nodeMost f))))
 
-pub all-inside : (nodes : List ℕ) (i size : ℕ) → Node.All size ≡ nodeAt nodes i → i < nodeMost
-all-inside nodes i size e = node-inside nodes i (Node.All size) e (λ f. let z : _≡_ {A = ℕ} 0 1 = cc in omega arith)
-
-pub any-inside : (nodes : List ℕ) (i size : ℕ) → Node.Any size ≡ nodeAt nodes i → i < nodeMost
-any-inside nodes i size e = node-inside nodes i (Node.Any size) e (λ f. let z : _≡_ {A = ℕ} 0 1 = cc in omega arith)
+pub join-inside : (nodes : List ℕ) (i : ℕ) (all : Bool) (size : ℕ) → Node.Join all size ≡ nodeAt nodes i → i < nodeMost
+join-inside nodes i all size e = node-inside nodes i (Node.Join all size) e (λ f. let z : _≡_ {A = ℕ} 0 1 = cc in omega arith)
 
 -- A node by its tag: none of a formula.
 none-of : (n : ℕ) → 4 ≤ n → OneOf (0 ∷ 1 ∷ 2 ∷ 3 ∷ []) n → ⊥
@@ -172,28 +200,22 @@ no-formula isKnown part (Node.Act a number) t = refl
 no-formula isKnown part (Node.Branch met unmet) t = refl
 no-formula isKnown part (Node.Jump skip) t = refl
 no-formula isKnown part (Node.End count) t = refl
-no-formula isKnown part (Node.All size) t = absurd (none-of 4 (omega arith) t)
-no-formula isKnown part (Node.Any size) t = absurd (none-of 5 (omega arith) t)
-no-formula isKnown part (Node.Known k) t = absurd (none-of 6 (omega arith) t)
-no-formula isKnown part (Node.NotKnown k) t = absurd (none-of 7 (omega arith) t)
+no-formula isKnown part (Node.Join all size) t = absurd (none-of 4 (omega arith) t)
+no-formula isKnown part (Node.Atom positive k) t = absurd (none-of 5 (omega arith) t)
 
 -- A node of a formula is an end at which the goal fails.
-none-of-program : (n : ℕ) → n < 4 → OneOf (4 ∷ 5 ∷ 6 ∷ 7 ∷ []) n → ⊥
+none-of-program : (n : ℕ) → n < 4 → OneOf (4 ∷ 5 ∷ []) n → ⊥
 none-of-program n h (inl e) = omega arith
-none-of-program n h (inr (inl e)) = omega arith
-none-of-program n h (inr (inr (inl e))) = omega arith
-none-of-program n h (inr (inr (inr e))) = omega arith
+none-of-program n h (inr e) = omega arith
 
-pub no-program : (formula : ℕ → Bool) (x : Node) (i : ℕ) (onward : ℕ → Place) → OneOf (4 ∷ 5 ∷ 6 ∷ 7 ∷ []) (tagOf the-type x) → atNode formula x i onward ≡ Place.End false
+pub no-program : (formula : ℕ → Bool) (x : Node) (i : ℕ) (onward : ℕ → Place) → OneOf (4 ∷ 5 ∷ []) (tagOf the-type x) → atNode formula x i onward ≡ Place.End false
 unfolding atNode
 no-program formula (Node.Act a number) i onward t = absurd (none-of-program 0 (omega arith) t)
 no-program formula (Node.Branch met unmet) i onward t = absurd (none-of-program 1 (omega arith) t)
 no-program formula (Node.Jump skip) i onward t = absurd (none-of-program 2 (omega arith) t)
 no-program formula (Node.End count) i onward t = absurd (none-of-program 3 (omega arith) t)
-no-program formula (Node.All size) i onward t = refl
-no-program formula (Node.Any size) i onward t = refl
-no-program formula (Node.Known k) i onward t = refl
-no-program formula (Node.NotKnown k) i onward t = refl
+no-program formula (Node.Join all size) i onward t = refl
+no-program formula (Node.Atom positive k) i onward t = refl
 
 -- What is known in a set: no state of it is outside the other set.
 module _ (sets : List ℕ) (set : States) (k : ℕ) where

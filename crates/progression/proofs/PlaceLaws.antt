@@ -3,7 +3,7 @@ use Prim.Native.Nat.{ℕ, suc, _+_, _-_, _<_, _≤_}
 use mathlib.Core.Path.{_≡_, refl, ap, subst, sym, _∙_}
 use mathlib.Core.Logic.{_⊎_, inl, inr}
 use mathlib.Core.List.{List, [], _∷_, _++_}
-use mathlib.Core.Bool.{Bool, true, false, not}
+use mathlib.Core.Bool.{Bool, true, false, not, _&&_, _||_}
 use native.Mathlib.Omega.{arith}
 use lib.ListN.{length, getD, length-append, List·getD-append}
 use Rattle.lists.specs.Lists.{if_then_else_, every}
@@ -24,8 +24,8 @@ use Rattle.routine.specs.Tables.{atoms, atomSets, formulaSize, formulaNodes, si
 use Rattle.routine.proofs.SizeLaws.{formula-length, atom-sets-length, nodes-length, program-sets-length}
 use Rattle.routine.proofs.TableLaws.{noStates, noNode}
 use Rattle.progression.specs.declared.place.Place.{Place}
-use Rattle.progression.specs.Machine.{knownBy, formulaNode, holdsAt, atNode}
-use Rattle.progression.proofs.MachineLaws.{goesTo, goes-by, holds-by, all-holds, any-holds}
+use Rattle.progression.specs.Machine.{knownBy, atomHolds, joined, holdsAt, atNode}
+use Rattle.progression.proofs.MachineLaws.{goesTo, goes-by, atom-holds, join-holds}
 use Rattle.progression.proofs.PolicyLaws.{leftOf, allLeft}
 
 -- Items stand one behind the other from place i on, where `get` tells what stands at a place.
@@ -75,21 +75,19 @@ module _ (nodes sets : List ℕ) (set : States) where
 
   -- A formula holds on its nodes as it does in the knowledge state.
   pub formula-holds : (f : Epistemic) (left i k : ℕ) → Levels f left → FormulaAt i k f → at left i ≡ satisfies (members set) f
-  unfolding formulaNodes atomSets Levels satisfies formulaNode knownBy
+  unfolding formulaNodes atomSets Levels satisfies atomHolds joined knownBy
   formula-holds (known f) left i k d (r, s) =
-      sym (holds-by nodes (knownBy sets set) left i d _ (sym (row-first (nodeAt nodes) noNode i _ [] r))) ∙ table-known (setAt sets) set k f (row-first (setAt sets) noStates k _ [] s)
+      sym (atom-holds nodes (knownBy sets set) left i d true k (sym (row-first (nodeAt nodes) noNode i _ [] r))) ∙ table-known (setAt sets) set k f (row-first (setAt sets) noStates k _ [] s)
   formula-holds (not-known f) left i k d (r, s) =
-      sym (holds-by nodes (knownBy sets set) left i d _ (sym (row-first (nodeAt nodes) noNode i _ [] r))) ∙ ap not (table-known (setAt sets) set k f (row-first (setAt sets) noStates k _ [] s))
+      sym (atom-holds nodes (knownBy sets set) left i d false k (sym (row-first (nodeAt nodes) noNode i _ [] r))) ∙ ap not (table-known (setAt sets) set k f (row-first (setAt sets) noStates k _ [] s))
   formula-holds (all-of f g) left i k d (r, s) =
       let p = parts f g i k _ r s in
-      sym (all-holds nodes (knownBy sets set) left i (formulaSize f) (d .0) (sym (row-first (nodeAt nodes) noNode i _ (formulaNodes f k ++ formulaNodes g (k + atoms f)) r)) _ _
-      (sym (formula-holds f (left - 1) (i + 1) k (d .1) (p .0)))
-      (sym (formula-holds g (left - 1) (i + 1 + formulaSize f) (k + atoms f) (d .2) (p .1))))
+      sym (join-holds nodes (knownBy sets set) left i (d .0) true (formulaSize f) (sym (row-first (nodeAt nodes) noNode i _ (formulaNodes f k ++ formulaNodes g (k + atoms f)) r)))
+      ∙ (λ j. formula-holds f (left - 1) (i + 1) k (d .1) (p .0) j && formula-holds g (left - 1) (i + 1 + formulaSize f) (k + atoms f) (d .2) (p .1) j)
   formula-holds (any-of f g) left i k d (r, s) =
       let p = parts f g i k _ r s in
-      sym (any-holds nodes (knownBy sets set) left i (formulaSize f) (d .0) (sym (row-first (nodeAt nodes) noNode i _ (formulaNodes f k ++ formulaNodes g (k + atoms f)) r)) _ _
-      (sym (formula-holds f (left - 1) (i + 1) k (d .1) (p .0)))
-      (sym (formula-holds g (left - 1) (i + 1 + formulaSize f) (k + atoms f) (d .2) (p .1))))
+      sym (join-holds nodes (knownBy sets set) left i (d .0) false (formulaSize f) (sym (row-first (nodeAt nodes) noNode i _ (formulaNodes f k ++ formulaNodes g (k + atoms f)) r)))
+      ∙ (λ j. formula-holds f (left - 1) (i + 1) k (d .1) (p .0) j || formula-holds g (left - 1) (i + 1 + formulaSize f) (k + atoms f) (d .2) (p .1) j)
 
 -- What stands in a memory: the end of the program at node `end-at`; there are `count` actions.
 module _ (nodes sets : List ℕ) (end-at count : ℕ) where

@@ -27,12 +27,21 @@ unfoldable pub knownBy : (sets : List ℕ) → States → (k : ℕ) → Bool
 unfolding every member setAt members
 knownBy sets set k = every (member (setAt sets k)) (members set)
 
--- What a node of a formula says, where `part` tells whether the part so many nodes behind the next one holds: "And, or, not read as usual." Other nodes are no formula.
+-- An atom, "known" or "not known" of set k.
+unfoldable pub atomHolds : (isKnown : ℕ → Bool) (positive : Bool) (k : ℕ) → Bool
+atomHolds isKnown true k = isKnown k
+atomHolds isKnown false k = not (isKnown k)
+
+-- Two parts: "And, or, not read as usual."
+unfoldable pub joined : (all first second : Bool) → Bool
+joined true first second = first && second
+joined false first second = first || second
+
+-- What a node of a formula says, where `part` tells whether the part so many nodes behind the next one holds. Other nodes are no formula.
 unfoldable pub formulaNode : (isKnown part : ℕ → Bool) → Node → Bool
-formulaNode isKnown part (Node.Known k) = isKnown k
-formulaNode isKnown part (Node.NotKnown k) = not (isKnown k)
-formulaNode isKnown part (Node.All size) = part 0 && part size
-formulaNode isKnown part (Node.Any size) = part 0 || part size
+unfolding atomHolds joined
+formulaNode isKnown part (Node.Atom positive k) = atomHolds isKnown positive k
+formulaNode isKnown part (Node.Join all size) = joined all (part 0) (part size)
 formulaNode isKnown part (Node.Act a number) = false
 formulaNode isKnown part (Node.Branch met unmet) = false
 formulaNode isKnown part (Node.Jump skip) = false
@@ -52,10 +61,8 @@ atNode formula (Node.Act a number) i onward = Place.Act i a
 atNode formula (Node.Branch met unmet) i onward = onward (if formula (i + 1) then met else unmet)
 atNode formula (Node.Jump skip) i onward = onward skip
 atNode formula (Node.End count) i onward = Place.End (formula goalNode)
-atNode formula (Node.All size) i onward = Place.End false
-atNode formula (Node.Any size) i onward = Place.End false
-atNode formula (Node.Known k) i onward = Place.End false
-atNode formula (Node.NotKnown k) i onward = Place.End false
+atNode formula (Node.Join all size) i onward = Place.End false
+atNode formula (Node.Atom positive k) i onward = Place.End false
 
 -- Where the program settles from node i on, the first `skip` nodes being skipped: at the program's next action, or at its end. `left` nodes are left from node i on.
 -- Each node leads further forward, and behind the last is an end at which the goal fails.

@@ -9,9 +9,11 @@ use routine::node_at;
 use routine::set_at;
 use states::States;
 ghost use mathlib.Core.Path.{_≡_};
+ghost use Prim.Native.Nat.{_+_, _≤_, _<_};
 ghost use Rattle.states.specs.Sets.{ofWords};
 ghost use Rattle.format.specs.Format.{deepest};
-ghost use Rattle.progression.specs.Machine.{knownBy, holdsAt, settled, Inside};
+ghost use Rattle.routine.specs.Memory.{nodeMost};
+ghost use Rattle.progression.specs.Machine.{knownBy, atomHolds, joined, holdsAt, settled, Inside};
 
 // An action node with its action, or the end and whether the goal holds there.
 pub enum Place {
@@ -26,71 +28,62 @@ pub fn known(sets: &[u64; SET_WORDS], k: usize, set: States) -> bool
     set.difference(set_at(sets, k)).is_empty()
 }
 
-// Whether the formula at node `at`, of at most `left` levels, holds where the states of the set of four words are possible.
-// A part that no longer decides is skipped. (The set is lent, since each call would copy it.)
-fn holds(
+// Whether an atom, "known" or "not known" of set k, holds where the states of the set of four words are possible.
+fn atom_holds(
+    sets: &[u64; SET_WORDS],
+    words: &[u64; States::WORDS],
+    positive: bool,
+    k: usize,
+) -> bool
+    ensures { λ r. ⌜ r ≡ atomHolds (knownBy (now (sets .entry)) (ofWords (now (words .entry)))) positive k ⌝ }
+{
+    known(sets, k, States::of_words(words)) == positive
+}
+
+// Whether both parts (`all`) or one of two hold, of at most `left` levels: the first at node `at` and the second `size`
+// nodes further. A second part that no longer decides is skipped. (A part that is an atom is no call of this function,
+// and the set is lent: a call for every atom, or a copy of the set at each, measured slower.)
+fn parts_hold(
     nodes: &[u16; NODE_CELLS],
     sets: &[u64; SET_WORDS],
     words: &[u64; States::WORDS],
+    all: bool,
     at: usize,
+    size: usize,
     left: usize,
 ) -> bool
-    ensures { λ r. ⌜ r ≡ holdsAt (now (nodes .entry)) (knownBy (now (sets .entry)) (ofWords (now (words .entry)))) left at ⌝ }
+    requires { ⌜ (at ≤ nodeMost) × (size < 65536) ⌝ }
+    ensures { λ r. ⌜ r ≡ joined all (holdsAt (now (nodes .entry)) (knownBy (now (sets .entry)) (ofWords (now (words .entry)))) left at) (holdsAt (now (nodes .entry)) (knownBy (now (sets .entry)) (ofWords (now (words .entry)))) left (at + size)) ⌝ }
 {
     if left == 0 {
         return false;
     }
-    match node_at(nodes, at) {
-        Node::Known(k) => known(sets, k, States::of_words(words)),
-        Node::NotKnown(k) => !known(sets, k, States::of_words(words)),
-        Node::All(size) => {
-            if !part_holds(nodes, sets, words, at + 1, left - 1) {
-                return false;
-            }
-            holds(nodes, sets, words, at + 1 + size, left - 1)
-        }
-        Node::Any(size) => {
-            if part_holds(nodes, sets, words, at + 1, left - 1) {
-                return true;
-            }
-            holds(nodes, sets, words, at + 1 + size, left - 1)
+    let first = match node_at(nodes, at) {
+        Node::Atom(positive, k) => atom_holds(sets, words, positive, k),
+        Node::Join(both, skip) => parts_hold(nodes, sets, words, both, at + 1, skip, left - 1),
+        _ => false,
+    };
+    if first != all {
+        return first;
+    }
+    match node_at(nodes, at + size) {
+        Node::Atom(positive, k) => atom_holds(sets, words, positive, k),
+        Node::Join(both, skip) => {
+            parts_hold(nodes, sets, words, both, at + size + 1, skip, left - 1)
         }
         _ => false,
     }
 }
 
-// The same of a first part, which is often an atom. (That is looked for first, since it measured faster.)
-fn part_holds(
-    nodes: &[u16; NODE_CELLS],
-    sets: &[u64; SET_WORDS],
-    words: &[u64; States::WORDS],
-    at: usize,
-    left: usize,
-) -> bool
-    ensures { λ r. ⌜ r ≡ holdsAt (now (nodes .entry)) (knownBy (now (sets .entry)) (ofWords (now (words .entry)))) left at ⌝ }
-{
-    if left == 0 {
-        return false;
-    }
-    match node_at(nodes, at) {
-        Node::Known(k) => known(sets, k, States::of_words(words)),
-        Node::NotKnown(k) => !known(sets, k, States::of_words(words)),
-        _ => holds(nodes, sets, words, at, left),
-    }
-}
-
-// Whether the formula at node `at` holds where the states of a set are possible. (One of an atom alone needs no recursion,
-// and its set isn't copied into words.)
+// Whether the formula at node `at` holds where the states of a set are possible.
 fn formula_holds(nodes: &[u16; NODE_CELLS], sets: &[u64; SET_WORDS], set: States, at: usize) -> bool
     ensures { λ r. ⌜ r ≡ holdsAt (now (nodes .entry)) (knownBy (now (sets .entry)) set) deepest at ⌝ }
 {
+    let words = set.words();
     match node_at(nodes, at) {
-        Node::Known(k) => known(sets, k, set),
-        Node::NotKnown(k) => !known(sets, k, set),
-        _ => {
-            let words = set.words();
-            holds(nodes, sets, &words, at, DEPTH)
-        }
+        Node::Atom(positive, k) => atom_holds(sets, &words, positive, k),
+        Node::Join(all, size) => parts_hold(nodes, sets, &words, all, at + 1, size, DEPTH - 1),
+        _ => false,
     }
 }
 

@@ -2,7 +2,7 @@
 use Prim.Native.Nat.{ℕ, suc, _+_, _-_, _*_, _≤_, _<_}
 use mathlib.Core.Path.{_≡_, sym, ap, subst, _∙_}
 use mathlib.Core.List.{List, _∷_, _++_, flatMap}
-use mathlib.Core.Bool.{false}
+use mathlib.Core.Bool.{Bool, true, false}
 use native.Mathlib.Omega.{arith}
 use lib.ListN.{length}
 use Rattle.format.specs.Syntax.{Objective, Epistemic, known, not-known, all-of, any-of}
@@ -15,7 +15,7 @@ use Rattle.routine.specs.declared.conditions.Filled.{Filled}
 use Rattle.states.specs.Sets.{words}
 use Rattle.routine.specs.Memory.{write, cells, nodeMost, setMost}
 use Rattle.routine.specs.Tables.{atoms, atomSets, formulaSize, formulaNodes}
-use Rattle.routine.specs.Filling.{AtomFills, FormulaRoom, FormulaFills, FormulaWritten, behindFormula}
+use Rattle.routine.specs.Filling.{pair, AtomFills, FormulaRoom, FormulaFills, PartsRoom, FormulaWritten, behindFormula}
 use Rattle.routine.proofs.SizeLaws.{formula-length, atom-sets-length, some-node, some-atom}
 use Rattle.routine.proofs.WriteLaws.{spread-one, spread-on, node-before, words-four, cells-three}
 
@@ -93,100 +93,114 @@ partsFrom from p = record { at = p; node = from .node + 1; set = from .set; acts
 module _ (bytes : List ℕ) (n left : ℕ) (from : Filled) where
   -- An atom is one node and one set.
   module _ (f : Epistemic) (p q : ℕ) (nodes sets : List ℕ) {nodes′ sets′ : List ℕ} {r : Filled} where
-    pub laid-known : AtomFills bytes n p from (Node.Known (from .set)) nodes nodes′ sets sets′ r → AtomAt bytes n left known f p q → FormulaWritten from f q nodes nodes′ sets sets′ r
+    pub laid-known : AtomFills bytes n p from (Node.Atom true (from .set)) nodes nodes′ sets sets′ r → AtomAt bytes n left known f p q → FormulaWritten from f q nodes nodes′ sets sets′ r
     unfolding atoms atomSets formulaSize formulaNodes
     laid-known fills h =
         let a = fills (h .inner) q (h .stands) in
         rw (h .is) (a .0, a .1 ∙ ap (write nodes (3 * from .node)) (sym (spread-one cells _)), a .2 ∙ ap (write sets (4 * from .set)) (sym (spread-one words _)))
 
-    pub laid-not-known : AtomFills bytes n p from (Node.NotKnown (from .set)) nodes nodes′ sets sets′ r → AtomAt bytes n left not-known f p q → FormulaWritten from f q nodes nodes′ sets sets′ r
+    pub laid-not-known : AtomFills bytes n p from (Node.Atom false (from .set)) nodes nodes′ sets sets′ r → AtomAt bytes n left not-known f p q → FormulaWritten from f q nodes nodes′ sets sets′ r
     unfolding atoms atomSets formulaSize formulaNodes
     laid-not-known fills h =
         let a = fills (h .inner) q (h .stands) in
         rw (h .is) (a .0, a .1 ∙ ap (write nodes (3 * from .node)) (sym (spread-one cells _)), a .2 ∙ ap (write sets (4 * from .set)) (sym (spread-one words _)))
 
   -- Of two parts the first is written behind the node, and the second behind the first.
-  module _ {make : Epistemic → Epistemic → Epistemic} {f : Epistemic} {p q : ℕ} (h : PairAt bytes n left make f p q) where
+  module _ (first second : Epistemic) (p middle q : ℕ) (first-read : epistemic n (left - 1) bytes p ≡ got first middle) (second-read : epistemic n (left - 1) bytes middle ≡ got second q) where
     abbrev pub firstBehind : Filled
-    firstBehind = behindFormula (partsFrom from p) (h .first) (h .middle)
+    firstBehind = behindFormula (partsFrom from p) first middle
 
     module _ {x : Filled} (is : x ≡ firstBehind) where
-      second-read-at : epistemic n (left - 1) bytes (x .at) ≡ got (h .second) q
-      second-read-at = ap (λ (v : Filled). epistemic n (left - 1) bytes (v .at)) is ∙ h .second-read
+      pub second-read-at : epistemic n (left - 1) bytes (x .at) ≡ got second q
+      second-read-at = ap (λ (v : Filled). epistemic n (left - 1) bytes (v .at)) is ∙ second-read
 
       -- The node tells the size of the first part.
-      pub size-is : x .node - (from .node + 1) ≡ formulaSize (h .first)
+      pub size-is : x .node - (from .node + 1) ≡ formulaSize first
       size-is = omega (arith, ap (λ (v : Filled). v .node) is)
-
-      pub size-inside : from .node + 1 ≤ x .node
-      size-inside = omega (arith, ap (λ (v : Filled). v .node) is)
 
     laid-pair : (node : Node) (nodes nodes₁ nodes₂ sets sets₁ : List ℕ) {nodes₃ sets₂ : List ℕ} {x y : Filled}
         → FormulaFills bytes n (left - 1) (partsFrom from p) nodes nodes₁ sets sets₁ x
         → nodes₂ ≡ write nodes₁ (3 * from .node) (cells node)
         → FormulaFills bytes n (left - 1) x nodes₂ nodes₃ sets₁ sets₂ y
-        → (y ≡ record { at = q; node = from .node + suc (formulaSize (h .first) + formulaSize (h .second)); set = from .set + (atoms (h .first) + atoms (h .second)); acts = from .acts })
-        × (nodes₃ ≡ write nodes (3 * from .node) (flatMap cells (node ∷ (formulaNodes (h .first) (from .set) ++ formulaNodes (h .second) (from .set + atoms (h .first))))))
-        × (sets₂ ≡ write sets (4 * from .set) (flatMap words (atomSets (h .first) ++ atomSets (h .second))))
+        → (y ≡ record { at = q; node = from .node + suc (formulaSize first + formulaSize second); set = from .set + (atoms first + atoms second); acts = from .acts })
+        × (nodes₃ ≡ write nodes (3 * from .node) (flatMap cells (node ∷ (formulaNodes first (from .set) ++ formulaNodes second (from .set + atoms first)))))
+        × (sets₂ ≡ write sets (4 * from .set) (flatMap words (atomSets first ++ atomSets second)))
     laid-pair node nodes nodes₁ nodes₂ sets sets₁ {nodes₃ = nodes₃} {sets₂ = sets₂} {y = y} earlier put later =
-        let fs = formulaNodes (h .first) (from .set) in
-        let a : FormulaWritten (partsFrom from p) (h .first) (h .middle) nodes nodes₁ sets sets₁ _ = earlier (h .first) (h .middle) (h .first-read) in
-        let b : FormulaWritten firstBehind (h .second) q nodes₂ nodes₃ sets₁ sets₂ y =
-        subst (λ (v : Filled). FormulaFills bytes n (left - 1) v nodes₂ nodes₃ sets₁ sets₂ y) (a .0) later (h .second) q (h .second-read) in
-        let i : from .node + 1 + formulaSize (h .first) + formulaSize (h .second) ≡ from .node + suc (formulaSize (h .first) + formulaSize (h .second)) = omega arith in
-        let j : from .set + atoms (h .first) + atoms (h .second) ≡ from .set + (atoms (h .first) + atoms (h .second)) = omega arith in (
+        let fs = formulaNodes first (from .set) in
+        let a : FormulaWritten (partsFrom from p) first middle nodes nodes₁ sets sets₁ _ = earlier first middle first-read in
+        let b : FormulaWritten firstBehind second q nodes₂ nodes₃ sets₁ sets₂ y =
+        subst (λ (v : Filled). FormulaFills bytes n (left - 1) v nodes₂ nodes₃ sets₁ sets₂ y) (a .0) later second q second-read in
+        let i : from .node + 1 + formulaSize first + formulaSize second ≡ from .node + suc (formulaSize first + formulaSize second) = omega arith in
+        let j : from .set + atoms first + atoms second ≡ from .set + (atoms first + atoms second) = omega arith in (
           b .0 ∙ rw (i, j),
-          spread-on 3 cells cells-three nodes nodes₂ nodes₃ (from .node) (from .node + 1 + formulaSize (h .first)) (node ∷ fs) (formulaNodes (h .second) (from .set + atoms (h .first)))
-              (node-before nodes nodes₁ nodes₂ (from .node) node fs (a .1) put) (b .1) (omega (arith, formula-length (h .first) (from .set))),
-          spread-on 4 words words-four sets sets₁ sets₂ (from .set) (from .set + atoms (h .first)) (atomSets (h .first)) (atomSets (h .second)) (a .2) (b .2)
-              (ap (λ (v : ℕ). from .set + v) (atom-sets-length (h .first))),
+          spread-on 3 cells cells-three nodes nodes₂ nodes₃ (from .node) (from .node + 1 + formulaSize first) (node ∷ fs) (formulaNodes second (from .set + atoms first))
+              (node-before nodes nodes₁ nodes₂ (from .node) node fs (a .1) put) (b .1) (omega (arith, formula-length first (from .set))),
+          spread-on 4 words words-four sets sets₁ sets₂ (from .set) (from .set + atoms first) (atomSets first) (atomSets second) (a .2) (b .2)
+              (ap (λ (v : ℕ). from .set + v) (atom-sets-length first)),
         )
 
-  -- "And" and "or" are written alike.
-  module _ {f : Epistemic} {p q : ℕ} (nodes nodes₁ nodes₂ sets sets₁ : List ℕ) {nodes₃ sets₂ : List ℕ} {x y : Filled}
-      (earlier : FormulaFills bytes n (left - 1) (partsFrom from p) nodes nodes₁ sets sets₁ x) where
-    pub laid-all-of : nodes₂ ≡ write nodes₁ (3 * from .node) (cells (Node.All (x .node - (from .node + 1)))) → FormulaFills bytes n (left - 1) x nodes₂ nodes₃ sets₁ sets₂ y
-        → PairAt bytes n left all-of f p q → FormulaWritten from f q nodes nodes₃ sets sets₂ y
-    unfolding atoms atomSets formulaSize formulaNodes
-    laid-all-of put later h =
-        let is = size-is h (earlier (h .first) (h .middle) (h .first-read) .0) in
-        rw (h .is) (laid-pair h (Node.All (formulaSize (h .first))) nodes nodes₁ nodes₂ sets sets₁ earlier (put ∙ ap (λ (v : ℕ). write nodes₁ (3 * from .node) (cells (Node.All v))) is) later)
-
-    pub laid-any-of : nodes₂ ≡ write nodes₁ (3 * from .node) (cells (Node.Any (x .node - (from .node + 1)))) → FormulaFills bytes n (left - 1) x nodes₂ nodes₃ sets₁ sets₂ y
-        → PairAt bytes n left any-of f p q → FormulaWritten from f q nodes nodes₃ sets sets₂ y
-    unfolding atoms atomSets formulaSize formulaNodes
-    laid-any-of put later h =
-        let is = size-is h (earlier (h .first) (h .middle) (h .first-read) .0) in
-        rw (h .is) (laid-pair h (Node.Any (formulaSize (h .first))) nodes nodes₁ nodes₂ sets sets₁ earlier (put ∙ ap (λ (v : ℕ). write nodes₁ (3 * from .node) (cells (Node.Any v))) is) later)
+    pub laid-parts : (all : Bool) (nodes nodes₁ nodes₂ sets sets₁ : List ℕ) {nodes₃ sets₂ : List ℕ} {x y : Filled}
+        → FormulaFills bytes n (left - 1) (partsFrom from p) nodes nodes₁ sets sets₁ x
+        → nodes₂ ≡ write nodes₁ (3 * from .node) (cells (Node.Join all (x .node - (from .node + 1))))
+        → FormulaFills bytes n (left - 1) x nodes₂ nodes₃ sets₁ sets₂ y
+        → FormulaWritten from (pair all first second) q nodes nodes₃ sets sets₂ y
+    unfolding pair atoms atomSets formulaSize formulaNodes
+    laid-parts true nodes nodes₁ nodes₂ sets sets₁ earlier put later =
+        laid-pair (Node.Join true (formulaSize first)) nodes nodes₁ nodes₂ sets sets₁ earlier
+        (put ∙ ap (λ (v : ℕ). write nodes₁ (3 * from .node) (cells (Node.Join true v))) (size-is (earlier first middle first-read .0))) later
+    laid-parts false nodes nodes₁ nodes₂ sets sets₁ earlier put later =
+        laid-pair (Node.Join false (formulaSize first)) nodes nodes₁ nodes₂ sets sets₁ earlier
+        (put ∙ ap (λ (v : ℕ). write nodes₁ (3 * from .node) (cells (Node.Join false v))) (size-is (earlier first middle first-read .0))) later
 
   -- There is room for a node and for a set; for two parts.
   module _ (room : FormulaRoom bytes n left from) where
     pub node-room : (from .node < nodeMost) × (from .set < setMost)
     node-room = (omega (arith, room .nodes-room, some-node (room .formula)), omega (arith, room .sets-room, some-atom (room .formula)))
 
-    module _ {make : Epistemic → Epistemic → Epistemic} {p : ℕ} (h : PairAt bytes n left make (room .formula) p (room .next)) where
-      pub first-room : FormulaRoom bytes n (left - 1) (partsFrom from p)
-      first-room =
+    pub parts-room : {make : Epistemic → Epistemic → Epistemic} {p : ℕ} → PairAt bytes n left make (room .formula) p (room .next) → PartsRoom bytes n left from p
+    parts-room h =
+        record {
+          first = h .first;
+          second = h .second;
+          middle = h .middle;
+          next = room .next;
+          first-read = h .first-read;
+          second-read = h .second-read;
+          some = h .some;
+          levels = room .levels;
+          nodes-room = omega (arith, room .nodes-room, h .many);
+          sets-room = omega (arith, room .sets-room, h .sets-many);
+        }
+
+  module _ {p : ℕ} (room : PartsRoom bytes n left from p) where
+    pub join-room : from .node + 1 ≤ nodeMost
+    join-room = omega (arith, room .nodes-room)
+
+    pub first-room : FormulaRoom bytes n (left - 1) (partsFrom from p)
+    first-room =
+        record {
+          formula = room .first;
+          next = room .middle;
+          read = room .first-read;
+          levels = omega (arith, room .levels);
+          nodes-room = omega (arith, room .nodes-room);
+          sets-room = omega (arith, room .sets-room);
+        }
+
+    module _ {x : Filled} (is : x ≡ behindFormula (partsFrom from p) (room .first) (room .middle)) where
+      pub size-inside : from .node + 1 ≤ x .node
+      size-inside = omega (arith, ap (λ (v : Filled). v .node) is)
+
+      pub size-small : x .node - (from .node + 1) < 65536
+      size-small = omega (arith, room .nodes-room, ap (λ (v : Filled). v .node) is)
+
+      pub second-room : FormulaRoom bytes n (left - 1) x
+      second-room =
           record {
-            formula = h .first;
-            next = h .middle;
-            read = h .first-read;
+            formula = room .second;
+            next = room .next;
+            read = second-read-at (room .first) (room .second) p (room .middle) (room .next) (room .first-read) (room .second-read) is;
             levels = omega (arith, room .levels);
-            nodes-room = omega (arith, room .nodes-room, h .many);
-            sets-room = omega (arith, room .sets-room, h .sets-many);
+            nodes-room = omega (arith, room .nodes-room, ap (λ (v : Filled). v .node) is);
+            sets-room = omega (arith, room .sets-room, ap (λ (v : Filled). v .set) is);
           }
-
-      module _ {x : Filled} (is : x ≡ firstBehind h) where
-        pub second-room : FormulaRoom bytes n (left - 1) x
-        second-room =
-            record {
-              formula = h .second;
-              next = room .next;
-              read = second-read-at h is;
-              levels = omega (arith, room .levels);
-              nodes-room = omega (arith, room .nodes-room, h .many, ap (λ (v : Filled). v .node) is);
-              sets-room = omega (arith, room .sets-room, h .sets-many, ap (λ (v : Filled). v .set) is);
-            }
-
-        pub size-small : x .node - (from .node + 1) < 65536
-        size-small = omega (arith, room .nodes-room, h .many, size-is h is)

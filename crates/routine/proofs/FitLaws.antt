@@ -3,7 +3,7 @@ use Prim.Native.Nat.{ℕ, zero, suc, _+_, _*_, _^_, _≤_, _<_}
 use mathlib.Core.Path.{_≡_, refl, sym, subst, _∙_}
 use mathlib.Core.Logic.{⊎-elim}
 use mathlib.Core.List.{List, [], _∷_, _++_, map, flatMap, List·Memᴰ, List·Memᴰ·head, List·Memᴰ·tail, List·Memᴰ·not-nil, List·Memᴰ·cases-cons, List·Memᴰ·append-cases}
-use mathlib.Core.Bool.{Bool, _&&_}
+use mathlib.Core.Bool.{Bool, true, false, _&&_}
 use native.Mathlib.Omega.{arith}
 use lib.ListN.{length, set, length-append}
 use Rattle.lists.specs.Lists.{below}
@@ -17,7 +17,7 @@ use Rattle.format.specs.Format.{Answer, gives, refused, mostActs, reading}
 use Rattle.format.proofs.FormatLaws.{NumbersBelow}
 use Rattle.format.proofs.SheetLaws.{FewReplies, accepted-shape}
 use Rattle.routine.specs.declared.memory.Node.{Node}
-use Rattle.routine.specs.Memory.{write, cells, Small, headMost, nodeMost, setMost}
+use Rattle.routine.specs.Memory.{write, flag, cells, Small, headMost, nodeMost, setMost}
 use Rattle.routine.specs.Tables.{rows, replyTables, actionSets, headCells, atoms, atomSets, formulaSize, formulaNodes, size, programAtoms, programSets, programNodes, sheetActionSets, sheetSets, sheetNodes, sheetHeads, sheetStart, setWords, nodeCells, prepared}
 use Rattle.routine.proofs.WriteLaws.{write-length}
 use Rattle.routine.proofs.RoomLaws.{action-length, accepted-room}
@@ -92,28 +92,31 @@ each-three P x y z a b c = each-more P x _ a (each-more P y _ b (each-more P z [
 each-four : (P : ℕ → Type 0) (x y z w : ℕ) → P x → P y → P z → P w → Each P (x ∷ y ∷ z ∷ w ∷ [])
 each-four P x y z w a b c d = each-more P x _ a (each-three P y z w b c d)
 
+flag-small : (x : Bool) → flag x < 65536
+unfolding flag
+flag-small true = omega arith
+flag-small false = omega arith
+
 -- The three numbers of a node that is small.
 cells-fit : (node : Node) → Small node → Each Fits16 (cells node)
 unfolding cells Small
 cells-fit (Node.Act a number) h = each-three Fits16 0 a number (omega arith) (h .0) (h .1)
 cells-fit (Node.Branch met unmet) h = each-three Fits16 1 met unmet (omega arith) (h .0) (h .1)
 cells-fit (Node.Jump skip) h = each-three Fits16 2 skip 0 (omega arith) h (omega arith)
-cells-fit (Node.All size) h = each-three Fits16 3 size 0 (omega arith) h (omega arith)
-cells-fit (Node.Any size) h = each-three Fits16 4 size 0 (omega arith) h (omega arith)
-cells-fit (Node.Known k) h = each-three Fits16 5 k 0 (omega arith) h (omega arith)
-cells-fit (Node.NotKnown k) h = each-three Fits16 6 k 0 (omega arith) h (omega arith)
-cells-fit (Node.End count) h = each-three Fits16 7 count 0 (omega arith) h (omega arith)
+cells-fit (Node.Join all size) h = each-three Fits16 3 size (flag all) (omega arith) h (flag-small all)
+cells-fit (Node.Atom positive k) h = each-three Fits16 4 k (flag positive) (omega arith) h (flag-small positive)
+cells-fit (Node.End count) h = each-three Fits16 5 count 0 (omega arith) h (omega arith)
 
 -- The nodes of a formula whose nodes and sets have room.
 formula-small : (f : Epistemic) (k : ℕ) → formulaSize f ≤ nodeMost → k + atoms f ≤ setMost → Each Small (formulaNodes f k)
 unfolding formulaNodes formulaSize atoms Small
-formula-small (known f) k nodes sets = each-more Small (Node.Known k) [] (omega arith) (each-none Small)
-formula-small (not-known f) k nodes sets = each-more Small (Node.NotKnown k) [] (omega arith) (each-none Small)
+formula-small (known f) k nodes sets = each-more Small (Node.Atom true k) [] (omega arith) (each-none Small)
+formula-small (not-known f) k nodes sets = each-more Small (Node.Atom false k) [] (omega arith) (each-none Small)
 formula-small (all-of f g) k nodes sets =
-    each-more Small (Node.All (formulaSize f)) _ (omega arith)
+    each-more Small (Node.Join true (formulaSize f)) _ (omega arith)
     (each-append Small (formulaNodes f k) (formulaNodes g (k + atoms f)) (formula-small f k (omega arith) (omega arith)) (formula-small g (k + atoms f) (omega arith) (omega arith)))
 formula-small (any-of f g) k nodes sets =
-    each-more Small (Node.Any (formulaSize f)) _ (omega arith)
+    each-more Small (Node.Join false (formulaSize f)) _ (omega arith)
     (each-append Small (formulaNodes f k) (formulaNodes g (k + atoms f)) (formula-small f k (omega arith) (omega arith)) (formula-small g (k + atoms f) (omega arith) (omega arith)))
 
 -- Action numbers that are below one number are below a greater one.

@@ -14,7 +14,7 @@ use Rattle.routine.specs.declared.memory.Node.{Node}
 use Rattle.routine.specs.declared.conditions.Filled.{Filled}
 use Rattle.states.specs.Sets.{words}
 use Rattle.routine.specs.Memory.{write, cells, Small, nodeMost}
-use Rattle.routine.specs.Tables.{atoms, atomSets, formulaSize, formulaNodes, size, programAtoms, programSets, programNodes, routineNodes}
+use Rattle.routine.specs.Tables.{atoms, atomSets, formulaSize, formulaNodes, size, programAtoms, programSets, programNodes, routineNodes, goalNode}
 use Rattle.routine.specs.Filling.{FormulaRoom, FormulaFills, FormulaWritten, behindFormula, ProgramRoom, ProgramFills, ProgramWritten, behindProgram, RoutineRoom}
 use Rattle.routine.proofs.WriteLaws.{spread-one, spread-on, node-before, words-four, cells-three}
 use Rattle.routine.proofs.SizeLaws.{formula-length, atom-sets-length, nodes-length, program-sets-length}
@@ -339,7 +339,7 @@ module _ (bytes : List ℕ) (n : ℕ) (from : Filled) where
 -- A goal from node 1 on, a jump over it before it, the program behind it, and the end.
 module _ (bytes : List ℕ) (n at k : ℕ) where
   abbrev goalFrom : Filled
-  goalFrom = record { at = at; node = 1; set = k; acts = 0 }
+  goalFrom = record { at = at; node = goalNode; set = k; acts = 0 }
 
   module _ (goal : Epistemic) (program : Program) (middle next : ℕ) (read : epistemic n deepest bytes at ≡ got goal middle) (stands : ProgramAt bytes n program middle next) where
     abbrev programBehind : Filled
@@ -350,7 +350,7 @@ module _ (bytes : List ℕ) (n at k : ℕ) where
 
     pub laid-routine : (nodes nodes₁ nodes₂ nodes₃ sets sets₁ : List ℕ) {nodes₄ sets₂ : List ℕ} {g p : Filled}
         → FormulaFills bytes n deepest goalFrom nodes nodes₁ sets sets₁ g
-        → nodes₂ ≡ write nodes₁ 0 (cells (Node.Jump (g .node - 1)))
+        → nodes₂ ≡ write nodes₁ 0 (cells (Node.Jump (g .node - goalNode)))
         → ProgramFills bytes n g nodes₂ nodes₃ sets₁ sets₂ p
         → nodes₄ ≡ write nodes₃ (3 * p .node) (cells (Node.End (p .acts)))
         → (nodes₄ ≡ write nodes 0 (flatMap cells (routineNodes goal program k))) × (sets₂ ≡ write sets (4 * k) (flatMap words (atomSets goal ++ programSets program)))
@@ -361,10 +361,10 @@ module _ (bytes : List ℕ) (n at k : ℕ) where
         let gs = formulaNodes goal k in
         let ps = programNodes program (k + atoms goal) 0 in
         let jump = Node.Jump (formulaSize goal) in
-        let over : 1 + formulaSize goal - 1 ≡ formulaSize goal = omega arith in
-        let i = 1 + formulaSize goal in
+        let i = goalNode + formulaSize goal in
+        let over : i - goalNode ≡ formulaSize goal = omega arith in
         let jumped : nodes₂ ≡ write nodes 0 (flatMap cells (jump ∷ gs)) =
-        node-before nodes nodes₁ nodes₂ 0 jump gs (lg .1) (put₁ ∙ ap (λ (v : Filled). write nodes₁ 0 (cells (Node.Jump (v .node - 1)))) (lg .0) ∙ ap (λ (v : ℕ). write nodes₁ 0 (cells (Node.Jump v))) over) in
+        node-before nodes nodes₁ nodes₂ 0 jump gs (lg .1) (put₁ ∙ ap (λ (v : Filled). write nodes₁ 0 (cells (Node.Jump (v .node - goalNode)))) (lg .0) ∙ ap (λ (v : ℕ). write nodes₁ 0 (cells (Node.Jump v))) over) in
         let none : 0 + actionNodes program ≡ actionNodes program = omega arith in
         let last = Node.End (actionNodes program) in
         let ended : nodes₄ ≡ write nodes₃ (3 * (i + size program)) (flatMap cells (last ∷ [])) =
@@ -392,7 +392,7 @@ module _ (bytes : List ℕ) (n at k : ℕ) where
       abbrev is : g ≡ behindFormula goalFrom (room .goal) (room .middle)
       is = reach (room .goal) (room .middle) (room .read)
 
-      pub goal-small : (1 ≤ g .node) × Small (Node.Jump (g .node - 1))
+      pub goal-small : (1 ≤ g .node) × Small (Node.Jump (g .node - goalNode))
       unfolding Small
       goal-small = let e = ap (λ (v : Filled). v .node) is in (omega (arith, e), omega (arith, e, room .nodes-room))
 

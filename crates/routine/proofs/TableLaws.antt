@@ -2,7 +2,7 @@
 use Prim.Native.Nat.{ℕ, zero, suc, _+_, _*_, _<_, _≤_}
 use mathlib.Core.Path.{_≡_, refl, ap, _∙_}
 use mathlib.Core.List.{List, [], _∷_, _++_, flatMap}
-use mathlib.Core.Bool.{Bool, false}
+use mathlib.Core.Bool.{Bool, true, false}
 use native.Mathlib.Omega.{arith}
 use native.Mathlib.Nat.{mul-zero, mul-suc}
 use lib.ListN.{length, getD, take, length-append, List·getD-append}
@@ -79,10 +79,10 @@ node-cells (Node.Act a number) = refl
 node-cells (Node.Branch met unmet) = refl
 node-cells (Node.Jump skip) = refl
 node-cells (Node.End count) = refl
-node-cells (Node.All size) = refl
-node-cells (Node.Any size) = refl
-node-cells (Node.Known k) = refl
-node-cells (Node.NotKnown k) = refl
+node-cells (Node.Join true size) = refl
+node-cells (Node.Join false size) = refl
+node-cells (Node.Atom true k) = refl
+node-cells (Node.Atom false k) = refl
 
 node-back : (xs : List ℕ) (items : List Node) → length xs ≡ 3 * nodeMost → length items ≤ nodeMost → (k : ℕ) → k < length items → nodeAt (write xs 0 (flatMap cells items)) k ≡ getD items k noNode
 unfolding nodeAt if_then_else_

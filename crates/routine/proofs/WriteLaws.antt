@@ -106,10 +106,8 @@ cells-three (Node.Act a number) = refl
 cells-three (Node.Branch met unmet) = refl
 cells-three (Node.Jump skip) = refl
 cells-three (Node.End count) = refl
-cells-three (Node.All size) = refl
-cells-three (Node.Any size) = refl
-cells-three (Node.Known k) = refl
-cells-three (Node.NotKnown k) = refl
+cells-three (Node.Join all size) = refl
+cells-three (Node.Atom positive k) = refl
 
 pub spread-append : {A : Type 0} (spread : A → List ℕ) (items more : List A) → flatMap spread (items ++ more) ≡ flatMap spread items ++ flatMap spread more
 unfolding flatMap

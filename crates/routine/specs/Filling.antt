@@ -1,13 +1,13 @@
 -- The method: what the parts of `prepare` do, for the contracts of inner functions. An auditor of the promises needs none of it. Parts of a sheet stand in its bytes as
 -- format/specs/Standing.antt says.
-use Prim.Native.Nat.{ℕ, _+_, _*_, _≤_}
+use Prim.Native.Nat.{ℕ, _+_, _-_, _*_, _≤_}
 use mathlib.Core.List.{List, [], _∷_, _++_, flatMap, map}
-use mathlib.Core.Bool.{true, false, _&&_}
+use mathlib.Core.Bool.{Bool, true, false, _&&_}
 use mathlib.Core.Path.{_≡_}
 use lib.ListN.{length}
 use Rattle.states.specs.declared.States.{States}
 use Rattle.states.specs.Sets.{words, member, setOf}
-use Rattle.format.specs.Syntax.{Objective, Epistemic, Program, actionNodes, Action, change, Sheet}
+use Rattle.format.specs.Syntax.{Objective, Epistemic, all-of, any-of, Program, actionNodes, Action, change, Sheet}
 use Rattle.format.specs.Truth.{truth, holds}
 use Rattle.format.specs.Format.{got, gives, deepest, mostActs, epistemic, reading}
 use Rattle.format.specs.Standing.{ObjectiveAt, RepliesAt, ActionAt, ActionsAt, ProgramAt}
@@ -23,6 +23,11 @@ ActionWritten space a k heads heads′ sets sets′ r x q =
     (r ≡ record { at = q; set = k + length (actionSets (member space) x) })
     × (heads′ ≡ write heads (3 * a) (headCells (member space) k (x ∷ [])))
     × (sets′ ≡ write sets (4 * k) (flatMap words (actionSets (member space) x)))
+
+-- Two formulas joined by "and" or "or".
+unfoldable pub pair : (all : Bool) → Epistemic → Epistemic → Epistemic
+pair true f g = all-of f g
+pair false f g = any-of f g
 
 -- How far the tables are written behind a formula or a program that ends at q.
 abbrev pub behindFormula : Filled → Epistemic → (q : ℕ) → Filled
@@ -121,6 +126,25 @@ module _ (bytes : List ℕ) (n : ℕ) where
   abbrev pub FormulaFills : (left : ℕ) (from : Filled) (nodes nodes′ sets sets′ : List ℕ) → Filled → Type 0
   FormulaFills left from nodes nodes′ sets sets′ r =
       (f : Epistemic) (q : ℕ) → epistemic n left bytes (from .at) ≡ got f q → FormulaWritten from f q nodes nodes′ sets sets′ r
+
+  -- Two parts are read at a position, with one level less, and there is room for a node, for theirs and for their sets.
+  pub record PartsRoom (left : ℕ) (from : Filled) (at : ℕ) : Type 0 where
+    pub first : Epistemic
+    pub second : Epistemic
+    pub middle : ℕ
+    pub next : ℕ
+    pub first-read : epistemic n (left - 1) bytes at ≡ got first middle
+    pub second-read : epistemic n (left - 1) bytes middle ≡ got second next
+    pub some : 1 ≤ left
+    pub levels : left ≤ deepest
+    pub nodes-room : from .node + 1 + formulaSize first + formulaSize second ≤ nodeMost
+    pub sets-room : from .set + atoms first + atoms second ≤ setMost
+
+  -- They are written, joined.
+  abbrev pub PartsFill : (left : ℕ) (from : Filled) (at : ℕ) (all : Bool) (nodes nodes′ sets sets′ : List ℕ) → Filled → Type 0
+  PartsFill left from at all nodes nodes′ sets sets′ r =
+      (f g : Epistemic) (m q : ℕ) → epistemic n (left - 1) bytes at ≡ got f m → epistemic n (left - 1) bytes m ≡ got g q
+      → FormulaWritten from (pair all f g) q nodes nodes′ sets sets′ r
 
   -- A program stands at a position, and its nodes and its sets have room.
   pub record ProgramRoom (from : Filled) : Type 0 where

@@ -2,7 +2,7 @@
 use Prim.Native.Nat.{ℕ, _+_, _*_, _<_}
 use mathlib.Core.Path.{_≡_}
 use mathlib.Core.List.{List, [], _∷_}
-use mathlib.Core.Bool.{false}
+use mathlib.Core.Bool.{Bool, true, false}
 use lib.Dec.{ltb, eqb}
 use lib.ListN.{length, getD, set}
 use Rattle.lists.specs.Lists.{if_then_else_}
@@ -16,26 +16,28 @@ unfoldable pub write : (memory : List ℕ) (i : ℕ) (numbers : List ℕ) → Li
 write memory i [] = memory
 write memory i (x ∷ xs) = write (set memory i x) (i + 1) xs
 
+-- A truth value as a number.
+unfoldable pub flag : Bool → ℕ
+flag true = 1
+flag false = 0
+
 -- A node as three numbers.
 unfoldable pub cells : Node → List ℕ
+unfolding flag
 cells (Node.Act a number) = 0 ∷ a ∷ number ∷ []
 cells (Node.Branch met unmet) = 1 ∷ met ∷ unmet ∷ []
 cells (Node.Jump skip) = 2 ∷ skip ∷ 0 ∷ []
-cells (Node.All size) = 3 ∷ size ∷ 0 ∷ []
-cells (Node.Any size) = 4 ∷ size ∷ 0 ∷ []
-cells (Node.Known k) = 5 ∷ k ∷ 0 ∷ []
-cells (Node.NotKnown k) = 6 ∷ k ∷ 0 ∷ []
-cells (Node.End count) = 7 ∷ count ∷ 0 ∷ []
+cells (Node.Join all size) = 3 ∷ size ∷ flag all ∷ []
+cells (Node.Atom positive k) = 4 ∷ k ∷ flag positive ∷ []
+cells (Node.End count) = 5 ∷ count ∷ 0 ∷ []
 
 -- The numbers of a node fit 16 bits.
 unfoldable pub Small : Node → Type 0
 Small (Node.Act a number) = (a < 65536) × (number < 65536)
 Small (Node.Branch met unmet) = (met < 65536) × (unmet < 65536)
 Small (Node.Jump skip) = skip < 65536
-Small (Node.All size) = size < 65536
-Small (Node.Any size) = size < 65536
-Small (Node.Known k) = k < 65536
-Small (Node.NotKnown k) = k < 65536
+Small (Node.Join all size) = size < 65536
+Small (Node.Atom positive k) = k < 65536
 Small (Node.End count) = count < 65536
 
 -- The limits of the memory: heads, nodes, sets.
@@ -59,17 +61,15 @@ setAt sets k =
     if ltb k setMost then record { w0 = getD sets (4 * k) 0; w1 = getD sets (4 * k + 1) 0; w2 = getD sets (4 * k + 2) 0; w3 = getD sets (4 * k + 3) 0 }
     else setOf (λ s. false)
 
--- The node that three numbers are.
+-- The node that three numbers are. A flag other than 1 counts as 0.
 unfoldable pub nodeOf : (kind operand second : ℕ) → Node
 unfolding if_then_else_
 nodeOf kind operand second =
     if eqb kind 0 then Node.Act operand second
     else if eqb kind 1 then Node.Branch operand second
     else if eqb kind 2 then Node.Jump operand
-    else if eqb kind 3 then Node.All operand
-    else if eqb kind 4 then Node.Any operand
-    else if eqb kind 5 then Node.Known operand
-    else if eqb kind 6 then Node.NotKnown operand
+    else if eqb kind 3 then Node.Join (eqb second 1) operand
+    else if eqb kind 4 then Node.Atom (eqb second 1) operand
     else Node.End operand
 
 -- Node i of a memory; past the last an end.

@@ -2,7 +2,7 @@
 use Prim.Native.Nat.{ℕ, suc, _+_}
 use mathlib.Core.Path.{_≡_, refl}
 use mathlib.Core.List.{List, [], _∷_, _++_, map, flatMap}
-use mathlib.Core.Bool.{Bool, _&&_}
+use mathlib.Core.Bool.{Bool, true, false, _&&_}
 use lib.Dec.{ltb}
 use lib.ListN.{length, take}
 use Rattle.lists.specs.Lists.{upFrom, below}
@@ -66,10 +66,10 @@ formulaSize (any-of f g) = suc (formulaSize f + formulaSize g)
 -- They stand in reading order, the sets of the atoms from set k on. "And" and "or" tell how many nodes their first part has, behind which the second stands.
 unfoldable pub formulaNodes : Epistemic → (k : ℕ) → List Node
 unfolding atoms formulaSize
-formulaNodes (known f) k = Node.Known k ∷ []
-formulaNodes (not-known f) k = Node.NotKnown k ∷ []
-formulaNodes (all-of f g) k = Node.All (formulaSize f) ∷ (formulaNodes f k ++ formulaNodes g (k + atoms f))
-formulaNodes (any-of f g) k = Node.Any (formulaSize f) ∷ (formulaNodes f k ++ formulaNodes g (k + atoms f))
+formulaNodes (known f) k = Node.Atom true k ∷ []
+formulaNodes (not-known f) k = Node.Atom false k ∷ []
+formulaNodes (all-of f g) k = Node.Join true (formulaSize f) ∷ (formulaNodes f k ++ formulaNodes g (k + atoms f))
+formulaNodes (any-of f g) k = Node.Join false (formulaSize f) ∷ (formulaNodes f k ++ formulaNodes g (k + atoms f))
 
 -- The nodes of a program, the atoms of its conditions, and their sets, in reading order.
 unfoldable pub size : Program → ℕ
@@ -182,12 +182,12 @@ two-heads = refl
 -- A branch skips its condition, or that, the then-program and the jump behind it; the jump skips the else-program, and the rest stands behind that. The action nodes
 -- are numbered in reading order.
 branch-nodes : programNodes (branch (known (fact 0)) (act 8 end) (act 6 (act 8 end)) (act 7 end)) 5 0
-    ≡ Node.Branch 1 3 ∷ Node.Known 5 ∷ Node.Act 8 0 ∷ Node.Jump 2 ∷ Node.Act 6 1 ∷ Node.Act 8 2 ∷ Node.Act 7 3 ∷ []
+    ≡ Node.Branch 1 3 ∷ Node.Atom true 5 ∷ Node.Act 8 0 ∷ Node.Jump 2 ∷ Node.Act 6 1 ∷ Node.Act 8 2 ∷ Node.Act 7 3 ∷ []
 unfolding programNodes
 branch-nodes = refl
 
 -- A condition with both connectives, in reading order.
 condition-nodes : formulaNodes (all-of (any-of (not-known (fact 1)) (known (fact 2))) (known (fact 0))) 4
-    ≡ Node.All 3 ∷ Node.Any 1 ∷ Node.NotKnown 4 ∷ Node.Known 5 ∷ Node.Known 6 ∷ []
+    ≡ Node.Join true 3 ∷ Node.Join false 1 ∷ Node.Atom false 4 ∷ Node.Atom true 5 ∷ Node.Atom true 6 ∷ []
 unfolding formulaNodes
 condition-nodes = refl

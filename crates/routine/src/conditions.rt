@@ -13,7 +13,7 @@ ghost use Prim.Native.Nat.{_≤_, _<_};
 ghost use lib.ListN.{length};
 ghost use Rattle.format.specs.Format.{mostBytes};
 ghost use Rattle.routine.specs.Memory.{Small, nodeMost, setMost};
-ghost use Rattle.routine.specs.Filling.{AtomFills, FormulaRoom, FormulaFills};
+ghost use Rattle.routine.specs.Filling.{AtomFills, FormulaRoom, FormulaFills, PartsRoom, PartsFill};
 
 // How far a sheet is written into the tables: the position in the sheet, and how many nodes, sets and action nodes there
 // are so far.
@@ -52,8 +52,7 @@ fn fill_atom(
     }
 }
 
-// Writes the nodes of an epistemic formula of at most `left` levels, in reading order, and the sets of its atoms. "And" and
-// "or" are written behind their first part, whose size they tell.
+// Writes the nodes of an epistemic formula of at most `left` levels, in reading order, and the sets of its atoms.
 pub(crate) fn fill_formula(
     bytes: &[u8],
     from: Filled,
@@ -68,32 +67,42 @@ pub(crate) fn fill_formula(
     match epistemic_node(bytes, from.at) {
         EpistemicNode::Refused(r) => from,
         EpistemicNode::Known(p) => {
-            fill_atom(bytes, p, n, from, Node::Known(from.set), nodes, sets)
+            fill_atom(bytes, p, n, from, Node::Atom(true, from.set), nodes, sets)
         }
         EpistemicNode::NotKnown(p) => {
-            fill_atom(bytes, p, n, from, Node::NotKnown(from.set), nodes, sets)
+            fill_atom(bytes, p, n, from, Node::Atom(false, from.set), nodes, sets)
         }
-        EpistemicNode::AllOf(p) => {
-            let parts = Filled {
-                at: p,
-                node: from.node + 1,
-                set: from.set,
-                acts: from.acts,
-            };
-            let first = fill_formula(bytes, parts, n, left - 1, nodes, sets);
-            put_node(nodes, from.node, Node::All(first.node - (from.node + 1)));
-            fill_formula(bytes, first, n, left - 1, nodes, sets)
-        }
-        EpistemicNode::AnyOf(p) => {
-            let parts = Filled {
-                at: p,
-                node: from.node + 1,
-                set: from.set,
-                acts: from.acts,
-            };
-            let first = fill_formula(bytes, parts, n, left - 1, nodes, sets);
-            put_node(nodes, from.node, Node::Any(first.node - (from.node + 1)));
-            fill_formula(bytes, first, n, left - 1, nodes, sets)
-        }
+        EpistemicNode::AllOf(p) => fill_parts(bytes, p, n, from, true, left, nodes, sets),
+        EpistemicNode::AnyOf(p) => fill_parts(bytes, p, n, from, false, left, nodes, sets),
     }
+}
+
+// Writes "and" (`all`) or "or", a formula of at most `left` levels whose parts stand at a position: the node behind the
+// first part, whose size it tells.
+fn fill_parts(
+    bytes: &[u8],
+    at: usize,
+    n: usize,
+    from: Filled,
+    all: bool,
+    left: usize,
+    nodes: &mut [u16; NODE_CELLS],
+    sets: &mut [u64; SET_WORDS],
+) -> Filled
+    requires { ⌜ (length (now bytes) ≤ mostBytes) × PartsRoom (now bytes) n left from at ⌝ }
+    ensures { λ r. ⌜ PartsFill (now (bytes .entry)) n left from at all (now (nodes .entry)) (now (nodes .exit)) (now (sets .entry)) (now (sets .exit)) r ⌝ }
+{
+    let behind = Filled {
+        at: at,
+        node: from.node + 1,
+        set: from.set,
+        acts: from.acts,
+    };
+    let first = fill_formula(bytes, behind, n, left - 1, nodes, sets);
+    put_node(
+        nodes,
+        from.node,
+        Node::Join(all, first.node - (from.node + 1)),
+    );
+    fill_formula(bytes, first, n, left - 1, nodes, sets)
 }

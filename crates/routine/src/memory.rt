@@ -11,22 +11,20 @@ ghost use mathlib.Core.Path.{_≡_};
 ghost use mathlib.Core.List.{[], _∷_};
 ghost use Prim.Native.Nat.{_*_, _<_};
 ghost use Rattle.states.specs.Sets.{words};
-ghost use Rattle.routine.specs.Memory.{write, cells, Small, headMost, nodeMost, setMost, setAt, nodeOf, nodeAt, headAt};
+ghost use Rattle.routine.specs.Memory.{write, flag as flagOf, cells, Small, headMost, nodeMost, setMost, setAt, nodeOf, nodeAt, headAt};
 
 // A node. Of a program: an action by its number, and the node's own number among the action nodes in reading order; a
 // branch, whose condition stands behind it, and how many nodes are skipped if that holds and if it doesn't; a jump over so
-// many nodes; the end, and how many action nodes there are. Of an epistemic formula, in reading order: "and" and "or" with
-// the size of their first part, which stands behind them, and behind it the second; "known" and "not known" with the
-// number of their set.
+// many nodes; the end, and how many action nodes there are. Of an epistemic formula, in reading order: two parts joined by
+// "and" (true) or "or" (false), with the size of the first, which stands behind the node, and behind it the second; an atom
+// "known" (true) or "not known" (false), with the number of its set.
 pub enum Node {
     Act(usize, usize),
     Branch(usize, usize),
     Jump(usize),
     End(usize),
-    All(usize),
-    Any(usize),
-    Known(usize),
-    NotKnown(usize),
+    Join(bool, usize),
+    Atom(bool, usize),
 }
 
 // Where an action's sets stand: from `rows` on the states that may follow each state, if the action changes facts; from
@@ -67,10 +65,8 @@ fn node_of(kind: usize, operand: usize, second: usize) -> Node
         0 => Node::Act(operand, second),
         1 => Node::Branch(operand, second),
         2 => Node::Jump(operand),
-        3 => Node::All(operand),
-        4 => Node::Any(operand),
-        5 => Node::Known(operand),
-        6 => Node::NotKnown(operand),
+        3 => Node::Join(second == 1, operand),
+        4 => Node::Atom(second == 1, operand),
         _ => Node::End(operand),
     }
 }
@@ -130,6 +126,16 @@ fn put_cells(nodes: &mut [u16; NODE_CELLS], i: usize, kind: u16, operand: usize,
     nodes[3 * i + 2] = second as u16;
 }
 
+// A truth value as a number.
+fn flag(x: bool) -> usize
+    ensures { λ r. ⌜ (r ≡ flagOf x) × (r < 65536) ⌝ }
+{
+    if x {
+        return 1;
+    }
+    0
+}
+
 // Writes node i.
 pub(crate) fn put_node(nodes: &mut [u16; NODE_CELLS], i: usize, node: Node)
     requires { ⌜ (i < nodeMost) × Small node ⌝ }
@@ -139,11 +145,9 @@ pub(crate) fn put_node(nodes: &mut [u16; NODE_CELLS], i: usize, node: Node)
         Node::Act(a, number) => put_cells(nodes, i, 0, a, number),
         Node::Branch(met, unmet) => put_cells(nodes, i, 1, met, unmet),
         Node::Jump(skip) => put_cells(nodes, i, 2, skip, 0),
-        Node::All(size) => put_cells(nodes, i, 3, size, 0),
-        Node::Any(size) => put_cells(nodes, i, 4, size, 0),
-        Node::Known(k) => put_cells(nodes, i, 5, k, 0),
-        Node::NotKnown(k) => put_cells(nodes, i, 6, k, 0),
-        Node::End(count) => put_cells(nodes, i, 7, count, 0),
+        Node::Join(all, size) => put_cells(nodes, i, 3, size, flag(all)),
+        Node::Atom(positive, k) => put_cells(nodes, i, 4, k, flag(positive)),
+        Node::End(count) => put_cells(nodes, i, 5, count, 0),
     }
 }
 

@@ -11,7 +11,7 @@ use borrow.Author.Tests.{eqb-true}
 use Rattle.lists.specs.Lists.{if_then_else_, every}
 use Rattle.lists.proofs.ListLaws.{both-true}
 use Rattle.format.specs.Syntax.{replyCount, Sheet, actionOf}
-use Rattle.format.specs.Format.{Answer, gives, refused, onAccepted, reading}
+use Rattle.format.specs.Format.{Answer, gives, refused, onAccepted, reading, mostBytes, mostActs}
 use Rattle.reader.specs.Answers.{withoutValue}
 use Rattle.reader.proofs.AnswerLaws.{was-accepted}
 use Rattle.semantics.specs.Runs.{History, entry}
@@ -102,11 +102,11 @@ module _ (l : ℕ) (xs : List ℕ) (n : ℕ) (e : length xs ≡ l) (h : isPadded
 
 module _ (r : Record) where
   -- What a record holds, by what the parts of 31 say.
-  pub sheet-padded : isPadded 1024 (r .sheet) (r .len) ≡ true → sheetIn r ≡ reading (heldSheet r)
+  pub sheet-padded : isPadded mostBytes (r .sheet) (r .len) ≡ true → sheetIn r ≡ reading (heldSheet r)
   unfolding sheetIn if_then_else_
   sheet-padded h = ap (λ (b : Bool). if b then reading (heldSheet r) else badRecord) h
 
-  pub sheet-not : isPadded 1024 (r .sheet) (r .len) ≡ false → sheetIn r ≡ badRecord
+  pub sheet-not : isPadded mostBytes (r .sheet) (r .len) ≡ false → sheetIn r ≡ badRecord
   unfolding sheetIn if_then_else_
   sheet-not h = ap (λ (b : Bool). if b then reading (heldSheet r) else badRecord) h
 
@@ -120,20 +120,20 @@ module _ (r : Record) where
   held-refused k e = ap (passing (λ (s : Sheet). areReplies s (r .replies) (r .count))) e
 
   -- And back.
-  pub sheet-accepted : (sheet : Sheet) → sheetIn r ≡ gives sheet → (isPadded 1024 (r .sheet) (r .len) ≡ true) × (reading (heldSheet r) ≡ gives sheet)
-  sheet-accepted sheet e = go (isPadded 1024 (r .sheet) (r .len)) refl
+  pub sheet-accepted : (sheet : Sheet) → sheetIn r ≡ gives sheet → (isPadded mostBytes (r .sheet) (r .len) ≡ true) × (reading (heldSheet r) ≡ gives sheet)
+  sheet-accepted sheet e = go (isPadded mostBytes (r .sheet) (r .len)) refl
     where
-      go : (b : Bool) → isPadded 1024 (r .sheet) (r .len) ≡ b → (isPadded 1024 (r .sheet) (r .len) ≡ true) × (reading (heldSheet r) ≡ gives sheet)
+      go : (b : Bool) → isPadded mostBytes (r .sheet) (r .len) ≡ b → (isPadded mostBytes (r .sheet) (r .len) ≡ true) × (reading (heldSheet r) ≡ gives sheet)
       go true h = (h, sym (sheet-padded h) ∙ e)
       go false h = let no-way : badRecord ≡ gives sheet = sym (sheet-not h) ∙ e in let z : _≡_ {A = ℕ} 0 1 = cc in absurd (omega arith)
 
   pub held-parts : (sheet : Sheet) → heldBy r ≡ gives sheet
-      → (isPadded 1024 (r .sheet) (r .len) ≡ true) × (reading (heldSheet r) ≡ gives sheet) × (isPadded 64 (r .replies) (r .count) ≡ true) × (areOfRun sheet (heldReplies r) ≡ true)
+      → (isPadded mostBytes (r .sheet) (r .len) ≡ true) × (reading (heldSheet r) ≡ gives sheet) × (isPadded mostActs (r .replies) (r .count) ≡ true) × (areOfRun sheet (heldReplies r) ≡ true)
   unfolding heldBy areReplies heldReplies
   held-parts sheet e =
       let p = passing-passed (λ (s : Sheet). areReplies s (r .replies) (r .count)) (sheetIn r) sheet e in
       let s = sheet-accepted sheet (p .0) in
-      let t = both-true (isPadded 64 (r .replies) (r .count)) (areOfRun sheet (take (r .count) (r .replies))) (p .1) in
+      let t = both-true (isPadded mostActs (r .replies) (r .count)) (areOfRun sheet (take (r .count) (r .replies))) (p .1) in
       (s .0, s .1, t .0, t .1)
 
   module _ (x : ℕ) where
@@ -143,35 +143,35 @@ module _ (r : Record) where
     after-refused k e = refused-unchanged (recordOf (heldSheet r)) r k (reportOn r x) e
 
     -- An accepted report: the record was not refused, there was room, and its reply stands behind the others.
-    module _ (sheet-sized : length (r .sheet) ≡ 1024) (replies-sized : length (r .replies) ≡ 64) (e : gives tt ≡ withoutValue (reportOn r x)) where
+    module _ (sheet-sized : length (r .sheet) ≡ mostBytes) (replies-sized : length (r .replies) ≡ mostActs) (e : gives tt ≡ withoutValue (reportOn r x)) where
       by-sheet : (qs : List ℕ) × (reportOn r x ≡ gives qs) × ((sheet : Sheet) × (heldBy r ≡ gives sheet) × (reported sheet (heldReplies r) x ≡ gives qs))
       unfolding reportOn
       by-sheet =
           let a = was-accepted (reportOn r x) e in
           (a .0, a .1, on-accepted (λ (s : Sheet). reported s (heldReplies r) x) (heldBy r) (a .0) (a .1))
 
-      parts : (isPadded 1024 (r .sheet) (r .len) ≡ true) × (reading (heldSheet r) ≡ gives (by-sheet .2 .0)) × (isPadded 64 (r .replies) (r .count) ≡ true) × (areOfRun (by-sheet .2 .0) (heldReplies r) ≡ true)
+      parts : (isPadded mostBytes (r .sheet) (r .len) ≡ true) × (reading (heldSheet r) ≡ gives (by-sheet .2 .0)) × (isPadded mostActs (r .replies) (r .count) ≡ true) × (areOfRun (by-sheet .2 .0) (heldReplies r) ≡ true)
       parts = held-parts (by-sheet .2 .0) (by-sheet .2 .1)
 
       added : reportOn r x ≡ gives (heldReplies r ++ (x ∷ []))
       added = by-sheet .1 ∙ ap gives (reported-adds (by-sheet .2 .0) (heldReplies r) x (by-sheet .0) (by-sheet .2 .2))
 
-      at-most : length (heldReplies r ++ (x ∷ [])) ≤ 64
+      at-most : length (heldReplies r ++ (x ∷ [])) ≤ mostActs
       at-most =
           let q = reported-adds (by-sheet .2 .0) (heldReplies r) x (by-sheet .0) (by-sheet .2 .2) in
           replies-most (heldSheet r) (by-sheet .2 .0) (parts .1) (heldReplies r ++ (x ∷ [])) (accepted-run (by-sheet .2 .0) (heldReplies r) x (by-sheet .2 .2 ∙ ap gives q))
 
       longer : length (heldReplies r ++ (x ∷ [])) ≡ r .count + 1
       unfolding heldReplies
-      longer = omega (arith, length-append (take (r .count) (r .replies)) (x ∷ []), before-length 64 (r .replies) (r .count) replies-sized (parts .2))
+      longer = omega (arith, length-append (take (r .count) (r .replies)) (x ∷ []), before-length mostActs (r .replies) (r .count) replies-sized (parts .2))
 
-      pub has-room : r .count < 64
+      pub has-room : r .count < mostActs
       has-room = omega (arith, at-most, longer)
 
       pub after-accepted : record { sheet = r .sheet; len = r .len; replies = set (r .replies) (r .count) x; count = r .count + 1 } ≡ recordAfter r x
       unfolding recordAfter recordFor recordOf heldReplies heldSheet
       after-accepted =
-          let w = written-padded 64 (r .replies) (r .count) x replies-sized has-room (padded-rest 64 (r .replies) (r .count) (parts .2)) in
-          let s = sym (padded-back 1024 (r .sheet) (r .len) sheet-sized (parts .0)) in
-          let n = sym (before-length 1024 (r .sheet) (r .len) sheet-sized (parts .0)) in
+          let w = written-padded mostActs (r .replies) (r .count) x replies-sized has-room (padded-rest mostActs (r .replies) (r .count) (parts .2)) in
+          let s = sym (padded-back mostBytes (r .sheet) (r .len) sheet-sized (parts .0)) in
+          let n = sym (before-length mostBytes (r .sheet) (r .len) sheet-sized (parts .0)) in
           (λ i. record { sheet = s i; len = n i; replies = w i; count = sym longer i }) ∙ sym (ap (recordFor r (recordOf (heldSheet r))) added)

@@ -9,7 +9,7 @@ use lib.Seq.{take-append-seam, drop-append-seam}
 use Rattle.lists.specs.Lists.{if_then_else_, every}
 use Rattle.lists.proofs.ListLaws.{and-both}
 use Rattle.format.specs.Syntax.{Sheet}
-use Rattle.format.specs.Format.{gives, refused, onAccepted, reading}
+use Rattle.format.specs.Format.{gives, refused, onAccepted, reading, mostBytes, mostActs}
 use Rattle.format.proofs.SheetLaws.{accepted-length}
 use Rattle.semantics.specs.Replies.{told, reported, RepliesOfRun, areOfRun}
 use Rattle.semantics.proofs.ReplyLaws.{of-run, run-of}
@@ -41,22 +41,22 @@ is-padded l xs h = rest-decides l (padded l xs) (length xs) h ∙ behind-zero l 
 module _ (bytes rs : List ℕ) where
   held-sheet : heldSheet (recordOf bytes rs) ≡ bytes
   unfolding heldSheet recordOf
-  held-sheet = before-bytes 1024 bytes
+  held-sheet = before-bytes mostBytes bytes
 
   held-replies : heldReplies (recordOf bytes rs) ≡ rs
   unfolding heldReplies recordOf
-  held-replies = before-bytes 64 rs
+  held-replies = before-bytes mostActs rs
 
 module _ (bytes : List ℕ) (sheet : Sheet) (read : reading bytes ≡ gives sheet) (rs : List ℕ) (run : RepliesOfRun sheet rs) where
   sheet-held : sheetIn (recordOf bytes rs) ≡ gives sheet
   unfolding recordOf
-  sheet-held = sheet-padded (recordOf bytes rs) (is-padded 1024 bytes (accepted-length bytes sheet read)) ∙ ap reading (held-sheet bytes rs) ∙ read
+  sheet-held = sheet-padded (recordOf bytes rs) (is-padded mostBytes bytes (accepted-length bytes sheet read)) ∙ ap reading (held-sheet bytes rs) ∙ read
 
   replies-held : areReplies sheet (recordOf bytes rs .replies) (recordOf bytes rs .count) ≡ true
   unfolding areReplies recordOf
   replies-held =
-      and-both (isPadded 64 (padded 64 rs) (length rs)) (areOfRun sheet (take (length rs) (padded 64 rs)))
-      (is-padded 64 rs (replies-most bytes sheet read rs run)) (ap (areOfRun sheet) (before-bytes 64 rs) ∙ run-of sheet rs run)
+      and-both (isPadded mostActs (padded mostActs rs) (length rs)) (areOfRun sheet (take (length rs) (padded mostActs rs)))
+      (is-padded mostActs rs (replies-most bytes sheet read rs run)) (ap (areOfRun sheet) (before-bytes mostActs rs) ∙ run-of sheet rs run)
 
   held : heldBy (recordOf bytes rs) ≡ gives sheet
   unfolding if_then_else_
@@ -82,16 +82,16 @@ module _ (bytes : List ℕ) (sheet : Sheet) (read : reading bytes ≡ gives shee
 
 -- 31 by `recordOf`: a record isn't refused, and holds a sheet, exactly if it is the record of bytes that are this sheet and of replies of a run. (The lengths of its arrays are
 -- those of their types.)
-module _ (r : Record) (sheet-sized : length (r .sheet) ≡ 1024) (replies-sized : length (r .replies) ≡ 64) (sheet : Sheet) where
+module _ (r : Record) (sheet-sized : length (r .sheet) ≡ mostBytes) (replies-sized : length (r .replies) ≡ mostActs) (sheet : Sheet) where
   pub held-record : (heldBy r ≡ gives sheet) ↔ ((bytes : List ℕ) × (rs : List ℕ) × (r ≡ recordOf bytes rs) × (reading bytes ≡ gives sheet) × RepliesOfRun sheet rs)
   unfolding recordOf heldSheet heldReplies
   held-record = (
     λ e.
         let p = held-parts r sheet e in
-        let bytes = sym (padded-back 1024 (r .sheet) (r .len) sheet-sized (p .0)) in
-        let len = sym (before-length 1024 (r .sheet) (r .len) sheet-sized (p .0)) in
-        let replies = sym (padded-back 64 (r .replies) (r .count) replies-sized (p .2)) in
-        let count = sym (before-length 64 (r .replies) (r .count) replies-sized (p .2)) in
+        let bytes = sym (padded-back mostBytes (r .sheet) (r .len) sheet-sized (p .0)) in
+        let len = sym (before-length mostBytes (r .sheet) (r .len) sheet-sized (p .0)) in
+        let replies = sym (padded-back mostActs (r .replies) (r .count) replies-sized (p .2)) in
+        let count = sym (before-length mostActs (r .replies) (r .count) replies-sized (p .2)) in
         (heldSheet r, heldReplies r, λ i. record { sheet = bytes i; len = len i; replies = replies i; count = count i }, p .1, of-run sheet (heldReplies r) (p .3)),
     λ q. ap heldBy (q .2) ∙ held (q .0) sheet (q .3) (q .1) (q .4),
   )

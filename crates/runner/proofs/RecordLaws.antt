@@ -11,7 +11,7 @@ use borrow.Author.Tests.{eq-eqb, ne-eqb, le-leb, lt-leb, leb-true}
 use lib.Dec.{leb}
 use Rattle.lists.proofs.ListLaws.{both-true}
 use Rattle.format.specs.Syntax.{Sheet}
-use Rattle.format.specs.Format.{Answer, gives, refused, reading}
+use Rattle.format.specs.Format.{Answer, gives, refused, reading, mostBytes, mostActs}
 use Rattle.reader.specs.declared.refusal.Refusal.{Refusal}
 use Rattle.reader.specs.declared.sheet.Acceptance.{Acceptance}
 use Rattle.reader.specs.Answers.{numberOf, answerOf, withoutValue}
@@ -84,7 +84,7 @@ module _ (bytes : List ℕ) where
   loaded-for x e = ap (recordFor zeros (λ (sheet : Sheet). recordOf bytes [])) e
 
   -- Accepted bytes fit into the record.
-  pub accepted-fits : answerOf Acceptance.Accepted ≡ withoutValue (reading bytes) → length bytes ≤ 1024
+  pub accepted-fits : answerOf Acceptance.Accepted ≡ withoutValue (reading bytes) → length bytes ≤ mostBytes
   unfolding answerOf
   accepted-fits e = let a = was-accepted (reading bytes) e in accepted-length bytes (a .0) (a .1)
 
@@ -94,7 +94,7 @@ module _ (bytes : List ℕ) where
 
   -- Of accepted bytes the record is they and zeros behind them, with no replies.
   pub loaded-accepted : answerOf Acceptance.Accepted ≡ withoutValue (reading bytes)
-      → loaded bytes ≡ record { sheet = padded 1024 bytes; len = length bytes; replies = replicate 64 0; count = 0 }
+      → loaded bytes ≡ record { sheet = padded mostBytes bytes; len = length bytes; replies = replicate mostActs 0; count = 0 }
   unfolding answerOf recordOf
   loaded-accepted e = let a = was-accepted (reading bytes) e in loaded-record (a .0) (a .1)
 

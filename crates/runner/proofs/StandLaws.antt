@@ -12,7 +12,7 @@ use Rattle.lists.specs.Lists.{if_then_else_, nonempty}
 use Rattle.states.specs.declared.States.{States}
 use Rattle.states.specs.Sets.{members}
 use Rattle.routine.specs.declared.memory.Head.{Head}
-use Rattle.format.specs.Format.{Answer, gives, onAccepted, reading}
+use Rattle.format.specs.Format.{Answer, gives, onAccepted, reading, mostActs}
 use Rattle.reader.specs.declared.refusal.Refusal.{Refusal}
 use Rattle.routine.specs.declared.sheet.Prepared.{Prepared}
 use Rattle.routine.specs.Memory.{headAt}
@@ -163,13 +163,13 @@ module _ (heads nodes sets bytes replies : List ℕ) (count : ℕ) where
   unfolding walked walkedOf onAccepted preparedOf
   walk-refused r p q e = ap whole (sym (ap preparedOf q) ∙ e)
 
-  module _ (start : States) (p : Prepared) (q : p ≡ Prepared.Ready start) (e : preparedOf p ≡ startOf (reading bytes)) (long : length replies ≡ 64) (b : Bool)
+  module _ (start : States) (p : Prepared) (q : p ≡ Prepared.Ready start) (e : preparedOf p ≡ startOf (reading bytes)) (long : length replies ≡ mostActs) (b : Bool)
       (t : b ≡ isPadded (length replies) replies count) where
     by-start : gives (standsBy heads nodes sets replies count start) ≡ walked heads nodes sets bytes replies count
     unfolding walked onAccepted preparedOf
     by-start = ap whole (sym (ap preparedOf q) ∙ e)
 
-    is-padded : isPadded 64 replies count ≡ b
+    is-padded : isPadded mostActs replies count ≡ b
     is-padded = sym (t ∙ ap (λ (n : ℕ). isPadded n replies count) long)
 
     pub walk-unpadded : b ≡ false → walkedOf Walked.Nowhere ≡ walked heads nodes sets bytes replies count

@@ -12,7 +12,7 @@ use Rattle.lists.proofs.ListLaws.{two-cases, not-both}
 use Rattle.states.specs.declared.States.{States}
 use Rattle.states.specs.Sets.{members}
 use Rattle.format.specs.Syntax.{replyCount, Sheet, actionOf}
-use Rattle.format.specs.Format.{Answer, gives, refused, onAccepted, reading}
+use Rattle.format.specs.Format.{Answer, gives, refused, onAccepted, reading, mostBytes, mostActs}
 use Rattle.reader.specs.Answers.{answerOf, withoutValue}
 use Rattle.semantics.specs.Runs.{Entry, entry, History, extended, replies, holdsAfter, occurs}
 use Rattle.semantics.specs.Routine.{Policy, done, perform, routine, Follows, Following}
@@ -35,7 +35,7 @@ use Rattle.runner.specs.declared.walk.Judged.{Judged}
 use Rattle.runner.specs.declared.calls.Record.{Record}
 use Rattle.runner.specs.Records.{heldSheet, heldReplies, badRecord, isPadded, sheetIn, areReplies, heldBy, nextOn, reportOn}
 use Rattle.runner.specs.Answers.{toldOf, reportedOf}
-use Rattle.runner.specs.Walks.{walkedOf, goesOn, standsFrom, standsBy, walked, stands, judged, judgedAt, toldAt, acceptedAt, reportOf}
+use Rattle.runner.specs.Walks.{walkedOf, goesOn, standsFrom, standsBy, walked, stands, judged, judgedAt, toldAt, acceptedAt}
 use Rattle.runner.proofs.CallLaws.{sheet-padded, sheet-not, held-is, held-refused}
 use Rattle.runner.proofs.StandLaws.{none-left, one-left, end-stops, none-possible, some-possible, answered, judged-by}
 
@@ -209,6 +209,11 @@ module _ (sheet : Sheet) (rs : List ℕ) where
   unfolding reportedTo
   act-reported a after h r has some e f = λ i. if e i then (if f i then gives (rs ++ (r ∷ [])) else refused 34) else refused 33
 
+-- What a judgement answers.
+unfoldable pub reportOf : Judged → Reported
+reportOf (Judged.Kept set) = Reported.Accepted
+reportOf (Judged.Refused why) = Reported.Refused why
+
 -- The answer's number is that of the report.
 same-answer : (has some : Bool) (kept : States) (xs : List ℕ) → reportedOf (reportOf (answered has some kept)) ≡ withoutValue (if has then (if some then gives xs else refused 34) else refused 33)
 unfolding reportedOf reportOf withoutValue if_then_else_
@@ -313,27 +318,27 @@ module _ (r : Record) where
     abbrev by-padding : Bool → Answer Walked
     by-padding b = if b then walked heads nodes sets (heldSheet r) (r .replies) (r .count) else gives Walked.Nowhere
 
-    not-there : isPadded 1024 (r .sheet) (r .len) ≡ false → stands heads nodes sets r ≡ gives Walked.Nowhere
+    not-there : isPadded mostBytes (r .sheet) (r .len) ≡ false → stands heads nodes sets r ≡ gives Walked.Nowhere
     unfolding stands if_then_else_
     not-there e = ap by-padding e
 
-    is-there : isPadded 1024 (r .sheet) (r .len) ≡ true → stands heads nodes sets r ≡ walked heads nodes sets (heldSheet r) (r .replies) (r .count)
+    is-there : isPadded mostBytes (r .sheet) (r .len) ≡ true → stands heads nodes sets r ≡ walked heads nodes sets (heldSheet r) (r .replies) (r .count)
     unfolding stands if_then_else_
     is-there e = ap by-padding e
 
-    pub stands-not : isPadded 1024 (r .sheet) (r .len) ≡ false → walkedOf Walked.Nowhere ≡ stands heads nodes sets r
+    pub stands-not : isPadded mostBytes (r .sheet) (r .len) ≡ false → walkedOf Walked.Nowhere ≡ stands heads nodes sets r
     unfolding walkedOf
     stands-not e = sym (not-there e)
 
-    pub stands-walked : isPadded 1024 (r .sheet) (r .len) ≡ true → (w : Walked) → walkedOf w ≡ walked heads nodes sets (take (r .len) (r .sheet)) (r .replies) (r .count) → walkedOf w ≡ stands heads nodes sets r
+    pub stands-walked : isPadded mostBytes (r .sheet) (r .len) ≡ true → (w : Walked) → walkedOf w ≡ walked heads nodes sets (take (r .len) (r .sheet)) (r .replies) (r .count) → walkedOf w ≡ stands heads nodes sets r
     unfolding heldSheet
     stands-walked e w q = q ∙ sym (is-there e)
 
-  pub unprepared : isPadded 1024 (r .sheet) (r .len) ≡ false → (has : Sheet → List ℕ) (memory : List ℕ) → memory ≡ prepared has (sheetIn r) memory
+  pub unprepared : isPadded mostBytes (r .sheet) (r .len) ≡ false → (has : Sheet → List ℕ) (memory : List ℕ) → memory ≡ prepared has (sheetIn r) memory
   unfolding prepared
   unprepared e has memory = sym (ap (λ (a : Answer Sheet). prepared has a memory) (sheet-not r e))
 
-  pub was-prepared : isPadded 1024 (r .sheet) (r .len) ≡ true → (has : Sheet → List ℕ) (memory after : List ℕ) → after ≡ prepared has (reading (take (r .len) (r .sheet))) memory
+  pub was-prepared : isPadded mostBytes (r .sheet) (r .len) ≡ true → (has : Sheet → List ℕ) (memory after : List ℕ) → after ≡ prepared has (reading (take (r .len) (r .sheet))) memory
       → after ≡ prepared has (sheetIn r) memory
   unfolding heldSheet
   was-prepared e has memory after q = q ∙ sym (ap (λ (a : Answer Sheet). prepared has a memory) (sheet-padded r e))
@@ -345,12 +350,12 @@ module _ (r : Record) (heads nodes sets : List ℕ) (sized : Sized heads nodes s
   there = stands heads′ nodes′ sets′ r
 
   -- A refused sheet.
-  refused-there : isPadded 1024 (r .sheet) (r .len) ≡ true → (k : ℕ) → reading (heldSheet r) ≡ refused k → there ≡ refused k
+  refused-there : isPadded mostBytes (r .sheet) (r .len) ≡ true → (k : ℕ) → reading (heldSheet r) ≡ refused k → there ≡ refused k
   unfolding walked onAccepted startOf
   refused-there e k read = is-there r heads′ nodes′ sets′ e ∙ ap (λ (a : Answer Sheet). onAccepted (λ start. gives (standsBy heads′ nodes′ sets′ (r .replies) (r .count) start)) (startOf a)) read
 
   -- An accepted one: the replies and their count decide.
-  module _ (e : isPadded 1024 (r .sheet) (r .len) ≡ true) (sheet : Sheet) (read : reading (heldSheet r) ≡ gives sheet) where
+  module _ (e : isPadded mostBytes (r .sheet) (r .len) ≡ true) (sheet : Sheet) (read : reading (heldSheet r) ≡ gives sheet) where
     holds-sheet : sheetIn r ≡ gives sheet
     holds-sheet = sheet-padded r e ∙ read
 
@@ -374,7 +379,7 @@ module _ (r : Record) (heads nodes sets : List ℕ) (sized : Sized heads nodes s
     led-there = start-led sheet heads′ nodes′ sets′ (heldSheet r) read tabled-there (heldReplies r)
 
     -- By whether the count fits and only zeros stand past it.
-    by-count : (b : Bool) → isPadded 64 (r .replies) (r .count) ≡ b
+    by-count : (b : Bool) → isPadded mostActs (r .replies) (r .count) ≡ b
         → (there ≡ gives (if b then followed else Walked.Nowhere)) × (heldBy r ≡ byRun (b && areOfRun sheet (heldReplies r)) (gives sheet))
     unfolding standsBy areReplies heldReplies
     by-count b q = (
@@ -382,7 +387,7 @@ module _ (r : Record) (heads nodes sets : List ℕ) (sized : Sized heads nodes s
       held-is r sheet (b && areOfRun sheet (heldReplies r)) holds-sheet (ap (λ (c : Bool). c && areOfRun sheet (take (r .count) (r .replies))) q),
     )
 
-    told-there : (b : Bool) → isPadded 64 (r .replies) (r .count) ≡ b → toldOf (toldIn there) ≡ nextOn r
+    told-there : (b : Bool) → isPadded mostActs (r .replies) (r .count) ≡ b → toldOf (toldIn there) ≡ nextOn r
     unfolding toldOf toldIn nextOn onAccepted if_then_else_
     told-there true q =
         ap (λ (a : Answer Walked). toldOf (toldIn a)) (by-count true q .0) ∙ led-told (heldSheet r) sheet read heads′ nodes′ sets′ tabled-there (heldReplies r) followed led-there
@@ -394,7 +399,7 @@ module _ (r : Record) (heads nodes sets : List ℕ) (sized : Sized heads nodes s
     told-there false q =
         ap (λ (a : Answer Walked). toldOf (toldIn a)) (by-count false q .0) ∙ sym (ap (onAccepted (λ (s : Sheet). gives (told s (heldReplies r)))) (by-count false q .1))
 
-    report-there : (x : ℕ) (b : Bool) → isPadded 64 (r .replies) (r .count) ≡ b → reportedOf (reportIn heads′ sets′ there x) ≡ withoutValue (reportOn r x)
+    report-there : (x : ℕ) (b : Bool) → isPadded mostActs (r .replies) (r .count) ≡ b → reportedOf (reportIn heads′ sets′ there x) ≡ withoutValue (reportOn r x)
     unfolding reportedOf withoutValue reportIn reportOn onAccepted if_then_else_
     report-there x true q =
         ap (λ (a : Answer Walked). reportedOf (reportIn heads′ sets′ a x)) (by-count true q .0) ∙ led-reported (heldSheet r) sheet read heads′ nodes′ sets′ tabled-there (heldReplies r) x followed led-there
@@ -419,21 +424,21 @@ module _ (r : Record) (heads nodes sets : List ℕ) (sized : Sized heads nodes s
   -- In each case.
   told-record : toldOf (toldIn there) ≡ nextOn r
   unfolding toldIn
-  told-record = go (isPadded 1024 (r .sheet) (r .len)) refl (reading (heldSheet r)) refl
+  told-record = go (isPadded mostBytes (r .sheet) (r .len)) refl (reading (heldSheet r)) refl
     where
-      go : (b : Bool) → isPadded 1024 (r .sheet) (r .len) ≡ b → (a : Answer Sheet) → reading (heldSheet r) ≡ a → toldOf (toldIn there) ≡ nextOn r
+      go : (b : Bool) → isPadded mostBytes (r .sheet) (r .len) ≡ b → (a : Answer Sheet) → reading (heldSheet r) ≡ a → toldOf (toldIn there) ≡ nextOn r
       go false e a read = ap (λ (w : Answer Walked). toldOf (toldIn w)) (not-there r heads′ nodes′ sets′ e) ∙ bad-next (held-refused r _ (sheet-not r e))
       go true e (refused k) read = ap (λ (w : Answer Walked). toldOf (toldIn w)) (refused-there e k read) ∙ bad-next (held-refused r k (sheet-padded r e ∙ read))
-      go true e (gives sheet) read = told-there e sheet read (isPadded 64 (r .replies) (r .count)) refl
+      go true e (gives sheet) read = told-there e sheet read (isPadded mostActs (r .replies) (r .count)) refl
 
   report-record : (x : ℕ) → reportedOf (reportIn heads′ sets′ there x) ≡ withoutValue (reportOn r x)
   unfolding reportIn
-  report-record x = go (isPadded 1024 (r .sheet) (r .len)) refl (reading (heldSheet r)) refl
+  report-record x = go (isPadded mostBytes (r .sheet) (r .len)) refl (reading (heldSheet r)) refl
     where
-      go : (b : Bool) → isPadded 1024 (r .sheet) (r .len) ≡ b → (a : Answer Sheet) → reading (heldSheet r) ≡ a → reportedOf (reportIn heads′ sets′ there x) ≡ withoutValue (reportOn r x)
+      go : (b : Bool) → isPadded mostBytes (r .sheet) (r .len) ≡ b → (a : Answer Sheet) → reading (heldSheet r) ≡ a → reportedOf (reportIn heads′ sets′ there x) ≡ withoutValue (reportOn r x)
       go false e a read = ap (λ (w : Answer Walked). reportedOf (reportIn heads′ sets′ w x)) (not-there r heads′ nodes′ sets′ e) ∙ bad-report x (held-refused r _ (sheet-not r e))
       go true e (refused k) read = ap (λ (w : Answer Walked). reportedOf (reportIn heads′ sets′ w x)) (refused-there e k read) ∙ bad-report x (held-refused r k (sheet-padded r e ∙ read))
-      go true e (gives sheet) read = report-there e sheet read x (isPadded 64 (r .replies) (r .count)) refl
+      go true e (gives sheet) read = report-there e sheet read x (isPadded mostActs (r .replies) (r .count)) refl
 
   pub told-is : (w : Walked) → walkedOf w ≡ there → (t : Told) → t ≡ toldAt w → toldOf t ≡ nextOn r
   told-is w e t q = ap toldOf (q ∙ told-in w) ∙ ap (λ (a : Answer Walked). toldOf (toldIn a)) e ∙ told-record

@@ -15,7 +15,6 @@ use Rattle.progression.specs.declared.place.Place.{Place}
 use Rattle.progression.specs.Machine.{settled, effect, keptBy, stepped}
 use Rattle.runner.specs.declared.answer.Rejection.{Rejection}
 use Rattle.runner.specs.declared.answer.Told.{Told}
-use Rattle.runner.specs.declared.answer.Reported.{Reported}
 use Rattle.runner.specs.declared.walk.Walked.{Walked}
 use Rattle.runner.specs.declared.walk.Judged.{Judged}
 use Rattle.runner.specs.declared.calls.Record.{Record}
@@ -84,8 +83,3 @@ unfoldable pub acceptedAt : Walked → Acceptance
 acceptedAt (Walked.At place set) = Acceptance.Accepted
 acceptedAt Walked.Nowhere = Acceptance.Accepted
 acceptedAt (Walked.Refused r) = Acceptance.Refused r
-
--- What a judgement answers.
-unfoldable pub reportOf : Judged → Reported
-reportOf (Judged.Kept set) = Reported.Accepted
-reportOf (Judged.Refused why) = Reported.Refused why

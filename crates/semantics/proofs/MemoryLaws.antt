@@ -13,7 +13,7 @@ use Rattle.lists.specs.Lists.{if_then_else_}
 use Rattle.format.specs.Syntax.{Sheet}
 use Rattle.format.specs.Format.{Answer, gives, refused, onAccepted, reading}
 use Rattle.semantics.specs.Routine.{Failing, Full, Following}
-use Rattle.semantics.specs.Verdict.{Verdict, historyCount, trace, invalid, outcome, written, outcomeOf, verdictOf, shownBy, Verified, longestTrace, LongEnough, admitted, verified}
+use Rattle.semantics.specs.Verdict.{Verdict, historyCount, trace, invalid, outcome, written, outcomeOf, verdictOf, shownBy, Verified, longestTrace, LongEnough, admitted, verified, shortMemory}
 use Rattle.semantics.proofs.VerdictLaws.{Shown, invalid-means, none-shown}
 use Rattle.semantics.proofs.AcceptedLaws.{starts, actions-most, trace-length, trace-most}
 
@@ -22,7 +22,7 @@ pub admitted-long : (bytes old : List ℕ) → LongEnough old → admitted bytes
 unfolding admitted if_then_else_
 admitted-long bytes old enough = rw (le-ltb (length old) longestTrace enough)
 
-pub admitted-short : (bytes old : List ℕ) → length old < longestTrace → admitted bytes old ≡ refused 30
+pub admitted-short : (bytes old : List ℕ) → length old < longestTrace → admitted bytes old ≡ shortMemory
 unfolding admitted if_then_else_
 admitted-short bytes old l = rw (lt-ltb (length old) longestTrace l)
 
@@ -31,7 +31,7 @@ abbrev judged : (budget : ℕ) (old : List ℕ) → Answer Sheet → Verified
 judged budget old a = record { answer = verdictOf (outcomeOf a budget); memory = written (shownBy (outcomeOf a budget)) old }
 
 -- 30 leaves the memory as it was.
-pub verified-short : (bytes : List ℕ) (budget : ℕ) (old : List ℕ) → length old < longestTrace → verified bytes budget old ≡ record { answer = refused 30; memory = old }
+pub verified-short : (bytes : List ℕ) (budget : ℕ) (old : List ℕ) → length old < longestTrace → verified bytes budget old ≡ record { answer = shortMemory; memory = old }
 unfolding verified outcomeOf onAccepted verdictOf shownBy written
 verified-short bytes budget old l = ap (judged budget old) (admitted-short bytes old l)
 
@@ -102,7 +102,7 @@ memory-kept bytes budget old = go (ltb (length old) longestTrace) refl (reading 
     no-verdict r v e = let z : _≡_ {A = ℕ} 0 1 = cc in omega arith
 
     go : (b : Bool) → ltb (length old) longestTrace ≡ b → (r : Answer Sheet) → reading bytes ≡ r
-        → Kept bytes old (judged budget old (if b then refused 30 else r))
+        → Kept bytes old (judged budget old (if b then shortMemory else r))
     go true t r e = inl (refl, λ c l k. no-verdict 30 (invalid c l) k)
     go false t (refused r) e = inl (refl, λ c l k. no-verdict r (invalid c l) k)
     go false t (gives sheet) e = accepted-kept bytes sheet e budget old (ltb-false (length old) longestTrace t)

@@ -122,10 +122,14 @@ longestTrace = 1 + 2 * mostActs
 abbrev pub LongEnough : (memory : List ℕ) → Type 0
 LongEnough memory = longestTrace ≤ length memory
 
--- The sheet that is verified, or why none is. 30: "trace memory under 129 bytes (before anything else)".
+-- 30: "trace memory under 129 bytes (before anything else)".
+abbrev pub shortMemory : {A : Type 0} → Answer A
+shortMemory = refused 30
+
+-- The sheet that is verified, or why none is.
 unfoldable pub admitted : (bytes old : List ℕ) → Answer Sheet
 unfolding reading if_then_else_
-admitted bytes old = if ltb (length old) longestTrace then refused 30 else reading bytes
+admitted bytes old = if ltb (length old) longestTrace then shortMemory else reading bytes
 
 -- The verifier "takes a sheet, a budget (32 bits) and the trace memory".
 unfoldable pub verified : (bytes : List ℕ) (budget : ℕ) (old : List ℕ) → Verified

@@ -10,13 +10,13 @@ use Rattle.lists.specs.Lists.{if_then_else_}
 use Rattle.lists.proofs.ListLaws.{append-past}
 use Rattle.states.specs.declared.States.{States}
 use Rattle.format.specs.Syntax.{Sheet}
-use Rattle.format.specs.Format.{Answer, gives, refused, mostActs, reading}
+use Rattle.format.specs.Format.{Answer, gives, mostActs, reading}
 use Rattle.reader.specs.Answers.{numberOf}
 use Rattle.reader.specs.declared.refusal.Refusal.{Refusal}
 use Rattle.format.proofs.SheetLaws.{accepted-shape}
 use Rattle.semantics.specs.Runs.{Entry, entry, History}
 use Rattle.semantics.specs.Routine.{Following, Full, Failing}
-use Rattle.semantics.specs.Verdict.{historyCount, failures, trace, stopped, Outcome, leastRun, concluded, outcome, written, longestTrace, LongEnough, admitted, Verified, verified}
+use Rattle.semantics.specs.Verdict.{historyCount, failures, trace, stopped, Outcome, leastRun, concluded, outcome, written, longestTrace, LongEnough, admitted, Verified, verified, shortMemory}
 use Rattle.semantics.proofs.RunLaws.{run-occurs}
 use Rattle.semantics.proofs.VerdictLaws.{listed-failing}
 use Rattle.semantics.proofs.MemoryLaws.{admitted-long, admitted-short, verified-short, verified-accepted, verified-refused}
@@ -210,7 +210,7 @@ module _ (bytes : List ℕ) (budget : ℕ) (old heads nodes sets memo : List ℕ
 
   pub short-answered : length old < longestTrace → Answered Verdict.ShortMemory old heads nodes sets memo
   unfolding verifiedBy answerOf prepared cleared
-  short-answered l = answered (refused 30) (admitted-short bytes old l) Verdict.ShortMemory old heads nodes sets memo (λ z. sym (verified-short bytes budget old l)) (refl, refl, refl, refl)
+  short-answered l = answered (shortMemory) (admitted-short bytes old l) Verdict.ShortMemory old heads nodes sets memo (λ z. sym (verified-short bytes budget old l)) (refl, refl, refl, refl)
 
   module _ (enough : LongEnough old) (heads′ nodes′ sets′ : List ℕ) (p : Prepared)
       (tables : (preparedOf p ≡ startOf (reading bytes)) × (heads′ ≡ prepared sheetHeads (reading bytes) heads) × (nodes′ ≡ prepared nodeCells (reading bytes) nodes) × (sets′ ≡ prepared setWords (reading bytes) sets)) where

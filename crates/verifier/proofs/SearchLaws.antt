@@ -13,7 +13,7 @@ use Rattle.lists.proofs.OrderLaws.{upTo-mem}
 use Rattle.states.specs.declared.States.{States}
 use Rattle.states.specs.Sets.{members}
 use Rattle.format.specs.Syntax.{replyCount, Sheet, actionOf}
-use Rattle.format.specs.Format.{gives, reading}
+use Rattle.format.specs.Format.{gives, mostActs, reading}
 use Rattle.semantics.specs.Runs.{Entry, entry, History, extended, replies, holdsAfter, occurs}
 use Rattle.semantics.specs.Routine.{Policy, done, perform, routine, isFull}
 use Rattle.semantics.specs.Verdict.{historiesFrom, histories, HistoryBefore, fails, counted, historyCount, failures}
@@ -273,7 +273,7 @@ module _ (sheet : Sheet) (budget : ℕ) where
         ⊎-elim (λ x. acts h at set reached x left room (searches left) c) (λ x. ends h at set reached x (suc left) c) (reached-place sheet heads nodes sets bytes read tabled h at set reached)
 
     -- What the search finds from the start.
-    pub search-found : searched heads nodes sets budget 64 0 (sheetStart sheet) 0 ≡ (if ltb budget (historyCount sheet) then over else conclusion (historyCount sheet) (failures sheet))
+    pub search-found : searched heads nodes sets budget mostActs 0 (sheetStart sheet) 0 ≡ (if ltb budget (historyCount sheet) then over else conclusion (historyCount sheet) (failures sheet))
     unfolding histories leftAfter
     search-found =
-        sym (past-none (searched heads nodes sets budget 64 0 (sheetStart sheet) 0)) ∙ searches 64 [] 0 (sheetStart sheet) (start-reached sheet heads nodes sets bytes read tabled) refl 0 ∙ enter-is
+        sym (past-none (searched heads nodes sets budget mostActs 0 (sheetStart sheet) 0)) ∙ searches mostActs [] 0 (sheetStart sheet) (start-reached sheet heads nodes sets bytes read tabled) refl 0 ∙ enter-is

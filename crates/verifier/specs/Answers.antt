@@ -5,16 +5,16 @@ use lib.ListN.{replicate}
 use Rattle.format.specs.Syntax.{Sheet}
 use Rattle.format.specs.Format.{Answer, gives, refused}
 use Rattle.reader.specs.Answers.{numberOf}
-use Rattle.semantics.specs.Verdict.{Verdict as Meant, valid, invalid, stopped, Verified}
+use Rattle.semantics.specs.Verdict.{Verdict as Meant, valid, invalid, stopped, Verified, shortMemory}
 use Rattle.verifier.specs.declared.verdict.Verdict.{Verdict}
 
--- "valid" with the count, "invalid" with the count and the length, "stopped" with the budget; 30 for "trace memory under 129 bytes"; or the sheet's number.
+-- "valid" with the count, "invalid" with the count and the length, "stopped" with the budget; `shortMemory`, 30, where the trace memory is too short; or the sheet's number.
 unfoldable pub answerOf : Verdict → Answer Meant
 unfolding numberOf
 answerOf (Verdict.Valid c) = gives (valid c)
 answerOf (Verdict.Invalid c l) = gives (invalid c l)
 answerOf (Verdict.Stopped b) = gives (stopped b)
-answerOf Verdict.ShortMemory = refused 30
+answerOf Verdict.ShortMemory = shortMemory
 answerOf (Verdict.Refused r) = refused (numberOf r)
 
 -- The same with the trace memory after the call.

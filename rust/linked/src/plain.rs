@@ -41,11 +41,9 @@ pub fn prepare(sheet: &Sheet, tables: &mut Tables) -> Words {
 const ACT: u16 = 0;
 const BRANCH: u16 = 1;
 const JUMP: u16 = 2;
-const ALL: u16 = 3;
-const ANY: u16 = 4;
-const KNOWN: u16 = 5;
-const NOT_KNOWN: u16 = 6;
-const END: u16 = 7;
+const JOIN: u16 = 3;
+pub const ATOM: u16 = 4;
+const END: u16 = 5;
 
 /// The node from which on the goal stands.
 const GOAL: usize = 1;
@@ -96,20 +94,20 @@ impl Filling<'_> {
     /// The nodes of a formula in reading order, and the sets of its atoms.
     fn formula(&mut self, formula: &Epistemic) {
         match formula {
-            Epistemic::Known(part) => self.atom(KNOWN, part),
-            Epistemic::NotKnown(part) => self.atom(NOT_KNOWN, part),
-            Epistemic::And(left, right) => self.pair(ALL, left, right),
-            Epistemic::Or(left, right) => self.pair(ANY, left, right),
+            Epistemic::Known(part) => self.atom(true, part),
+            Epistemic::NotKnown(part) => self.atom(false, part),
+            Epistemic::And(left, right) => self.pair(true, left, right),
+            Epistemic::Or(left, right) => self.pair(false, left, right),
         }
     }
 
-    fn atom(&mut self, kind: u16, part: &Objective) {
-        self.node([kind, self.sets as u16, 0]);
+    fn atom(&mut self, known: bool, part: &Objective) {
+        self.node([ATOM, self.sets as u16, known.into()]);
         self.set((0..=State::MAX).filter(|&state| holds(part, state)));
     }
 
-    fn pair(&mut self, kind: u16, left: &Epistemic, right: &Epistemic) {
-        self.node([kind, size_of(left) as u16, 0]);
+    fn pair(&mut self, and: bool, left: &Epistemic, right: &Epistemic) {
+        self.node([JOIN, size_of(left) as u16, and.into()]);
         self.formula(left);
         self.formula(right);
     }
@@ -242,14 +240,14 @@ fn node_at(tables: &Tables, node: usize) -> [u16; 3] {
 
 /// Whether the formula at a node holds where the states of a set are possible.
 fn formula_holds(tables: &Tables, set: &Words, at: usize) -> bool {
-    let [kind, operand, _] = node_at(tables, at);
+    let [kind, operand, flag] = node_at(tables, at);
     let first = at + 1;
     let second = first + usize::from(operand);
-    match kind {
-        KNOWN => is_known(tables, set, operand.into()),
-        NOT_KNOWN => !is_known(tables, set, operand.into()),
-        ALL => formula_holds(tables, set, first) && formula_holds(tables, set, second),
-        _ => formula_holds(tables, set, first) || formula_holds(tables, set, second),
+    match (kind, flag) {
+        (ATOM, 1) => is_known(tables, set, operand.into()),
+        (ATOM, _) => !is_known(tables, set, operand.into()),
+        (_, 1) => formula_holds(tables, set, first) && formula_holds(tables, set, second),
+        (_, _) => formula_holds(tables, set, first) || formula_holds(tables, set, second),
     }
 }
 

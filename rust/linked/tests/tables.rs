@@ -330,7 +330,7 @@ mod machine {
 
     fn node_at(tables: &Tables, node: usize) -> [usize; 3] {
         if node >= NODES {
-            return [7, 0, 0];
+            return [5, 0, 0];
         }
         [0, 1, 2].map(|i| usize::from(tables.nodes[3 * node + i]))
     }
@@ -347,20 +347,19 @@ mod machine {
             met.too_deep += 1;
             return false;
         }
-        let [kind, operand, _] = node_at(tables, at);
-        match kind {
-            3 => {
+        match node_at(tables, at) {
+            [3, size, 1] => {
                 let first = holds_at(tables, set, left - 1, at + 1, met);
                 met.all[usize::from(first)] += 1;
-                first && holds_at(tables, set, left - 1, at + 1 + operand, met)
+                first && holds_at(tables, set, left - 1, at + 1 + size, met)
             }
-            4 => {
+            [3, size, _] => {
                 let first = holds_at(tables, set, left - 1, at + 1, met);
                 met.any[usize::from(first)] += 1;
-                first || holds_at(tables, set, left - 1, at + 1 + operand, met)
+                first || holds_at(tables, set, left - 1, at + 1 + size, met)
             }
-            5 => known_by(tables, set, operand),
-            6 => !known_by(tables, set, operand),
+            [4, k, 1] => known_by(tables, set, k),
+            [4, k, _] => !known_by(tables, set, k),
             _ => false,
         }
     }
@@ -401,7 +400,7 @@ mod machine {
                     }
                 }
                 2 => operand,
-                3..=6 => return (Place::End { goal: false }, false),
+                3 | 4 => return (Place::End { goal: false }, false),
                 _ => {
                     let goal = holds_at(tables, set, LEVELS, GOAL, met);
                     return (Place::End { goal }, true);
@@ -441,19 +440,27 @@ fn put_node(tables: &mut Tables, node: usize, cells: [u16; 3]) {
     }
 }
 
+/// 1 for "and" and "known", 0 for the others, now and then any number.
+fn flag(random: &mut Random) -> u16 {
+    match random.below(16) {
+        0 => random.bits() as u16,
+        _ => random.below(2) as u16,
+    }
+}
+
 /// Writes a formula of at most so many levels and gives the node behind it; now
 /// and then the second part doesn't stand where the node says.
 fn put_formula(random: &mut Random, tables: &mut Tables, at: usize, left: usize) -> usize {
     if random.chance(1, 64) {
         // One first part in the other, deeper than any formula that is read.
         for level in 0..20 {
-            put_node(tables, at + level, [3 + random.below(2) as u16, 0, 0]);
+            put_node(tables, at + level, [3, 0, flag(random)]);
         }
         return at + 20;
     }
     if left == 1 || random.chance(3, 5) {
         let set = random.below(10_300) as u16;
-        put_node(tables, at, [5 + random.below(2) as u16, set, 0]);
+        put_node(tables, at, [4, set, flag(random)]);
         return at + 1;
     }
     let second = put_formula(random, tables, at + 1, left - 1);
@@ -462,7 +469,7 @@ fn put_formula(random: &mut Random, tables: &mut Tables, at: usize, left: usize)
     } else {
         (second - (at + 1)) as u16
     };
-    put_node(tables, at, [3 + random.below(2) as u16, size, 0]);
+    put_node(tables, at, [3, size, flag(random)]);
     put_formula(random, tables, second, left - 1)
 }
 
@@ -485,8 +492,8 @@ fn random_tables(random: &mut Random) -> Tables {
         let far = random.below(farthest) as u16;
         let cells = match random.below(64) {
             0..=2 => [0, random.below(40) as u16, 0],
-            3..=5 => [*random.pick(&[7, 8, 65535]), 0, 0],
-            6 => [*random.pick(&[3, 4, 5, 6]), far, 0],
+            3..=5 => [*random.pick(&[5, 6, 65535]), 0, 0],
+            6 => [*random.pick(&[3, 4]), far, 0],
             7..=20 => [2, far, 0],
             _ => {
                 next = put_formula(random, &mut tables, node + 1, 18);
@@ -543,7 +550,7 @@ fn places_on_any_memory() {
         for _ in 0..40 {
             let set = random_set(&mut random);
             let mut at = random_index(&mut random, 4096);
-            while random.chance(7, 8) && at < 4096 && (3..=6).contains(&tables.nodes[3 * at]) {
+            while random.chance(7, 8) && at < 4096 && (3..=4).contains(&tables.nodes[3 * at]) {
                 at += 1;
             }
             let (expected, told) = machine::settled(&tables, &set, at, &mut on_the_way);

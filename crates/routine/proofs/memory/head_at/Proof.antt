@@ -1,12 +1,15 @@
 -- `routine::memory::head_at` meets its contract: each return by the law of its case (proofs/MemoryLaws.antt), and each number fits 16 bits, as what is read does. Assumes nothing.
 use borrow.Author.Needs.{needs}
+use denote.Ref.{now}
 use native.Mathlib.Omega.{arith}
-use Rattle.routine.proofs.MemoryLaws.{head-in, head-past}
+use Rattle.routine.specs.Memory.{headMost, headAt}
+use Rattle.routine.proofs.MemoryLaws.{three-in, past}
 use Rattle.routine.proofs.memory.head_at.Statement.{statement}
 use Rattle.routine.proofs.memory.head_at.Tie as tie
 
 returns : tie.Need-returns
-returns c = (head-past _ _ (c .if1 .taken), omega arith, omega arith, omega arith)
+unfolding headAt
+returns c = (past headMost _ _ _ (c .if1 .taken), omega arith, omega arith, omega arith)
 
 mul-wide : tie.Need-mul-wide
 mul-wide c = search needs
@@ -51,8 +54,9 @@ wide-requires-3 : tie.Need-wide-requires-3
 wide-requires-3 c κs = search needs
 
 returns-2 : tie.Need-returns-2
+unfolding headAt
 returns-2 c = (
-  head-in _ _ _ _ _ (omega arith) (c .before .before .before .before .wide .ensures .0) (c .before .before .wide2 .ensures .0) (c .wide3 .ensures .0),
+  three-in (λ x y z. record { rows = x; replies = y; count = z }) (record { rows = 0; replies = 0; count = 0 }) (now (c .before .before .before .before .before .before .before .args .heads)) headMost (c .before .before .before .before .before .before .before .args .a) _ _ _ (omega arith) (c .before .before .before .before .wide .ensures .0) (c .before .before .wide2 .ensures .0) (c .wide3 .ensures .0),
   c .before .before .before .before .wide .ensures .1,
   c .before .before .wide2 .ensures .1,
   c .wide3 .ensures .1,

@@ -1,15 +1,17 @@
 -- `routine::memory::node_at` meets its contract: each return by the law of its case (proofs/MemoryLaws.antt), and its numbers fit 16 bits, as what is read does. Assumes nothing.
 use mathlib.Core.Path.{sym, subst, _∙_}
+use denote.Ref.{now}
 use native.Mathlib.Omega.{arith}
-use Rattle.routine.specs.Memory.{Small}
-use Rattle.routine.proofs.MemoryLaws.{node-in, node-past, node-small}
+use Rattle.routine.specs.declared.memory.Node.{Node}
+use Rattle.routine.specs.Memory.{Small, nodeMost, nodeOf, nodeAt}
+use Rattle.routine.proofs.MemoryLaws.{three-in, past, node-small}
 use borrow.Author.Needs.{needs}
 use Rattle.routine.proofs.memory.node_at.Statement.{statement}
 use Rattle.routine.proofs.memory.node_at.Tie as tie
 
 returns : tie.Need-returns
-unfolding Small
-returns c = (node-past _ _ (c .if1 .taken), omega arith)
+unfolding Small nodeAt
+returns c = (past nodeMost _ _ _ (c .if1 .taken), omega arith)
 
 mul-wide : tie.Need-mul-wide
 mul-wide c = search needs
@@ -57,10 +59,11 @@ node-of-requires : tie.Need-node-of-requires
 node-of-requires c κs = search needs
 
 returns-2 : tie.Need-returns-2
+unfolding nodeAt
 returns-2 c =
     let n = c .node-of .ensures in (
-      n ∙ node-in _ _ _ _ _ (omega arith) (c .before .before .before .before .before .wide .ensures .0) (c .before .before .before .wide2 .ensures .0) (c .before .wide3 .ensures .0),
-      subst Small (sym n) (node-small _ _ _ (c .before .before .before .wide2 .ensures .1) (c .before .wide3 .ensures .1)),
+      n ∙ three-in nodeOf (Node.End 0) (now (c .before .before .before .before .before .before .before .before .args .nodes)) nodeMost (c .before .before .before .before .before .before .before .before .args .i) _ _ _ (omega arith) (c .before .before .before .before .before .wide .ensures .0) (c .before .before .before .wide2 .ensures .0) (c .before .wide3 .ensures .0),
+      subst Small (sym n) (node-small (c .before .before .before .before .before .wide .result) _ _ (c .before .before .before .wide2 .ensures .1) (c .before .wide3 .ensures .1)),
     )
 
 pub node-at-spec : {M : Type 1} → statement M

@@ -25,19 +25,9 @@ unfolding nodeOf
 returns-5 c = node-is 4 _ _ _ (c .match .keys5)
 
 returns-6 : tie.Need-returns-6
-unfolding nodeOf
-returns-6 c = node-is 5 _ _ _ (c .match .keys6)
-
-returns-7 : tie.Need-returns-7
-unfolding nodeOf
-returns-7 c = node-is 6 _ _ _ (c .match .keys7)
-
-returns-8 : tie.Need-returns-8
-returns-8 c =
+returns-6 c =
     let r = c .match .rest in
-    node-else _ _ _ (r .0 .0 .0 .0 .0 .0 .1) (r .0 .0 .0 .0 .0 .1) (r .0 .0 .0 .0 .1) (r .0 .0 .0 .1) (r .0 .0 .1) (r .0 .1) (r .1)
+    node-else _ _ _ (r .0 .0 .0 .0 .1) (r .0 .0 .0 .1) (r .0 .0 .1) (r .0 .1) (r .1)
 
 pub node-of-spec : {M : Type 1} → statement M
-node-of-spec =
-    tie.close
-    (tie.spec returns returns-2 returns-3 returns-4 returns-5 returns-6 returns-7 returns-8)
+node-of-spec = tie.close (tie.spec returns returns-2 returns-3 returns-4 returns-5 returns-6)

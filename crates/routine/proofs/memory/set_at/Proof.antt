@@ -2,7 +2,8 @@
 use borrow.Author.Needs.{needs}
 use mathlib.Core.Path.{_∙_}
 use native.Mathlib.Omega.{arith}
-use Rattle.routine.proofs.MemoryLaws.{set-in, set-past}
+use Rattle.routine.specs.Memory.{setMost, setAt}
+use Rattle.routine.proofs.MemoryLaws.{set-in, past}
 use Rattle.routine.proofs.memory.set_at.Statement.{statement}
 use Rattle.routine.proofs.memory.set_at.Tie as tie
 
@@ -10,7 +11,8 @@ empty-requires : tie.Need-empty-requires
 empty-requires c κs = search needs
 
 returns : tie.Need-returns
-returns c = c .empty .ensures ∙ set-past _ _ (c .before .if1 .taken)
+unfolding setAt
+returns c = c .empty .ensures ∙ past setMost _ _ _ (c .before .if1 .taken)
 
 mul-t4 : tie.Need-mul-t4
 mul-t4 c = search needs

@@ -5,12 +5,13 @@ use mathlib.Core.List.{_++_}
 use native.Mathlib.Omega.{arith}
 use denote.Ref.{now}
 use lib.ListN.{length, take, replicate}
+use Rattle.format.specs.Format.{mostBytes}
 use Rattle.runner.proofs.RecordLaws.{pad-more, pad-end}
 use Rattle.runner.proofs.calls.copied.Statement.{statement}
 use Rattle.runner.proofs.calls.copied.Tie as tie
 
 abbrev Inv-loop : tie.InvT-loop
-Inv-loop bytes to₀ i₀ to i = (i ≤ length bytes) × (to ≡ take i bytes ++ replicate (1024 - i) 0)
+Inv-loop bytes to₀ i₀ to i = (i ≤ length bytes) × (to ≡ take i bytes ++ replicate (mostBytes - i) 0)
 
 abbrev μ-loop : tie.MeasureT-loop
 μ-loop bytes to₀ i₀ to i = length bytes - i
@@ -31,10 +32,10 @@ loop-less : tie.Need-loop-less Inv-loop μ-loop
 loop-less c = omega arith
 
 loop-again : tie.Need-loop-again Inv-loop μ-loop
-loop-again c = let a = c .before .before in (omega arith, rw (a .loop .inv .1) (pad-more 1024 (now (a .before .args .bytes)) (a .loop .i) (omega arith) (omega arith)))
+loop-again c = let a = c .before .before in (omega arith, rw (a .loop .inv .1) (pad-more mostBytes (now (a .before .args .bytes)) (a .loop .i) (omega arith) (omega arith)))
 
 returns : tie.Need-returns Inv-loop μ-loop
-returns c = let a = c .before in a .loop .inv .1 ∙ pad-end 1024 (now (a .before .args .bytes)) (a .loop .i) (omega arith)
+returns c = let a = c .before in a .loop .inv .1 ∙ pad-end mostBytes (now (a .before .args .bytes)) (a .loop .i) (omega arith)
 
 pub copied-spec : {M : Type 1} → statement M
 copied-spec = tie.close (tie.spec Inv-loop μ-loop loop-holds shared-slice-read-to array-write-to add-i loop-less loop-again returns)

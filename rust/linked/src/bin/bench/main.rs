@@ -103,10 +103,7 @@ fn prepare_row(name: &str, bytes: &[u8]) {
 
 /// The last set that a node "known" or "not known" names: these sets are the last.
 fn last_set(tables: &Tables) -> u16 {
-    let atoms = tables
-        .nodes
-        .chunks(3)
-        .filter(|node| [5, 6].contains(&node[0]));
+    let atoms = tables.nodes.chunks(3).filter(|node| node[0] == plain::ATOM);
     atoms.map(|node| node[1]).max().unwrap()
 }
 

@@ -50,7 +50,7 @@ pub enum Goal {
     Fact,
 }
 
-/// The one of `slow_sheets` at whose places the most atoms are tested.
+/// The first of `slow_sheets`: no two of its replies are alike.
 pub fn slowest_sheet() -> Sheet {
     let (_, sheet) = slow_sheets().next().unwrap();
     sheet

@@ -3,7 +3,7 @@ use mathlib.Core.Path.{_≡_, sym, ap, _∙_}
 use lib.ListN.{length, replicate}
 use denote.Ref.{now}
 use Rattle.reader.specs.declared.sheet.Acceptance.{Acceptance}
-use Rattle.format.specs.Format.{reading}
+use Rattle.format.specs.Format.{reading, mostActs}
 use Rattle.reader.specs.Answers.{answerOf, withoutValue}
 use Rattle.runner.proofs.RecordLaws.{accepted-fits, loaded-accepted, loaded-refused}
 use borrow.Author.Needs.{needs}
@@ -34,7 +34,7 @@ returns c =
 returns-2 : tie.Need-returns-2
 returns-2 c =
     let bytes = now (c .before .before .before .before .args .bytes) in
-    (accepts (c .before), sym (loaded-accepted bytes (accepts (c .before)) ∙ λ i. record { sheet = sym (c .copied .ensures) i; len = length bytes; replies = replicate 64 0; count = 0 }))
+    (accepts (c .before), sym (loaded-accepted bytes (accepts (c .before)) ∙ λ i. record { sheet = sym (c .copied .ensures) i; len = length bytes; replies = replicate mostActs 0; count = 0 }))
 
 pub begin-spec : {M : Type 1} → statement M
 begin-spec =

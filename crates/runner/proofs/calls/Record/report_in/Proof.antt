@@ -4,15 +4,14 @@ use native.Mathlib.Omega.{arith}
 use mathlib.Core.Path.{_≡_, sym, _∙_}
 use lib.ListN.{length}
 use denote.Ref.{now}
-use Rattle.format.specs.Format.{gives}
+use Rattle.format.specs.Format.{gives, mostBytes, mostActs}
 use Rattle.reader.specs.Answers.{withoutValue}
 use Rattle.routine.specs.Memory.{Sized}
 use Rattle.runner.specs.declared.walk.Judged.{Judged}
 use Rattle.runner.specs.Records.{reportOn}
 use Rattle.runner.specs.Answers.{reportedOf}
-use Rattle.runner.specs.Walks.{reportOf}
 use Rattle.runner.proofs.CallLaws.{after-refused, has-room, after-accepted}
-use Rattle.runner.proofs.WalkLaws.{report-is}
+use Rattle.runner.proofs.WalkLaws.{reportOf, report-is}
 use Rattle.runner.proofs.Sizes.{sheet-size, replies-size}
 use borrow.Author.Needs.{needs}
 use Rattle.runner.proofs.calls.Record.report_in.Statement.{statement}
@@ -41,10 +40,10 @@ accepts : (c : Kept) → Lent (c .before .before .before) → gives tt ≡ witho
 unfolding reportedOf reportOf
 accepts c sized = answers (c .before .before .before) sized _ (c .before .set .given .1)
 
-sheet-sized : (c : Added) → length (start c .args .self .sheet) ≡ 1024
+sheet-sized : (c : Added) → length (start c .args .self .sheet) ≡ mostBytes
 sheet-sized c = sheet-size (start c .args .self) _ (start c .good .0)
 
-replies-sized : (c : Added) → length (start c .args .self .replies) ≡ 64
+replies-sized : (c : Added) → length (start c .args .self .replies) ≡ mostActs
 replies-sized c = replies-size (start c .args .self) _ (start c .good .0)
 
 stand-in-requires : tie.Need-stand-in-requires

@@ -6,6 +6,7 @@ use lib.ListN.{length}
 use lib.Seq.{length-take-le}
 use borrow.Author.Tests.{not-true, not-false}
 use Rattle.routine.specs.Tables.{sheetHeads, nodeCells, setWords}
+use Rattle.format.specs.Format.{mostBytes}
 use Rattle.runner.specs.Records.{isPadded}
 use Rattle.runner.proofs.RecordLaws.{padded-within}
 use Rattle.runner.proofs.WalkLaws.{stands-not, stands-walked, unprepared, was-prepared}
@@ -21,12 +22,12 @@ is-padded-requires : tie.Need-is-padded-requires
 is-padded-requires c κs = search needs
 
 -- The sheet's array, and whether it is padded.
-sheet-sized : (c : tie.Start) → length (c .args .self .sheet) ≡ 1024
+sheet-sized : (c : tie.Start) → length (c .args .self .sheet) ≡ mostBytes
 sheet-sized c = sheet-size (c .args .self) _ (c .good .0)
 
 tested : (c : tie.After-is-padded) →
     let start = c .before .before .before .before in
-    c .is-padded .result ≡ isPadded 1024 (start .args .self .sheet) (start .args .self .len)
+    c .is-padded .result ≡ isPadded mostBytes (start .args .self .sheet) (start .args .self .len)
 tested c =
     let start = c .before .before .before .before in
     c .is-padded .ensures ∙ ap (λ (n : ℕ). isPadded n (start .args .self .sheet) (start .args .self .len)) (sheet-sized start)
@@ -34,7 +35,7 @@ tested c =
 within : (c : tie.Else1) → c .before .before .before .before .before .args .self .len ≤ length (c .before .before .before .before .before .args .self .sheet)
 within c =
     let start = c .before .before .before .before .before in
-    omega (arith, padded-within 1024 (start .args .self .sheet) (start .args .self .len) (sym (tested (c .before)) ∙ not-false _ (c .if1 .left)), sheet-sized start)
+    omega (arith, padded-within mostBytes (start .args .self .sheet) (start .args .self .len) (sym (tested (c .before)) ∙ not-false _ (c .if1 .left)), sheet-sized start)
 
 returns : tie.Need-returns
 returns c =
