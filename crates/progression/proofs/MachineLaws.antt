@@ -1,5 +1,5 @@
 -- Laws of the machine: what is known, what holds, and where the program settles. Assumes nothing.
-use Prim.Native.Nat.{ℕ, zero, suc, _+_, _-_, _≤_, _<_}
+use Prim.Native.Nat.{ℕ, zero, suc, _+_, _-_, _≤_, _<_, min}
 use mathlib.Core.Path.{_≡_, refl, sym, ap, _∙_}
 use mathlib.Core.List.{List, [], _∷_}
 use mathlib.Core.Bool.{Bool, true, false, not, _&&_, Bool·beq}
@@ -21,7 +21,7 @@ use Rattle.routine.specs.Memory.{nodeMost, setAt, nodeAt}
 use Rattle.routine.proofs.MemoryLaws.{past}
 use Rattle.routine.specs.Tables.{goalNode}
 use Rattle.progression.specs.declared.place.Place.{Place}
-use Rattle.progression.specs.Machine.{knownBy, atomHolds, joined, formulaNode, holdsAt, atNode, settledFrom, settled}
+use Rattle.progression.specs.Machine.{knownBy, atomHolds, joined, partNode, partsIn, partsHold, formulaNode, holdsAt, atNode, settledFrom, settled}
 
 -- What a node leads to, by where it leads on.
 atNode-same : (formula : ℕ → Bool) (node : Node) (i : ℕ) (f g : ℕ → Place) → ((skip : ℕ) → f skip ≡ g skip) → atNode formula node i f ≡ atNode formula node i g
@@ -70,15 +70,15 @@ module _ (node : ℕ → Node) (formula : ℕ → Bool) where
       go (Node.Branch met unmet) on h = further (if formula (i + 1) then met else unmet) (on (if formula (i + 1) then met else unmet) h)
       go (Node.Jump skip) on h = further skip (on skip h)
       go (Node.End count) on h = no-end (formula goalNode) h
-      go (Node.Join all size) on h = no-end false h
-      go (Node.Atom positive k) on h = no-end false h
+      go (Node.Join all size) on h = no-end (formula goalNode) h
+      go (Node.Atom positive k) on h = no-end (formula goalNode) h
 
   -- Where the program settles from node i on.
   abbrev pub goesTo : ℕ → Place
   goesTo i = settledFrom node formula (nodeMost - i) 0 i
 
   -- A node that is there is where it settles, or leads on by whether the formula behind it holds.
-  pub goes-on : (i : ℕ) → i < nodeMost → goesTo i ≡ atNode formula (node i) i (λ skip. goesTo (i + 1 + skip))
+  goes-on : (i : ℕ) → i < nodeMost → goesTo i ≡ atNode formula (node i) i (λ skip. goesTo (i + 1 + skip))
   goes-on i h =
       let l : nodeMost - i ≡ suc (nodeMost - (i + 1)) = omega arith in
       ap (λ (left : ℕ). settledFrom node formula left 0 i) l ∙ settled-here (nodeMost - (i + 1)) i
@@ -104,62 +104,137 @@ module _ (node : ℕ → Node) (formula : ℕ → Bool) where
   goes-past i h = let e : nodeMost - i ≡ 0 = omega arith in rw e
 
 -- The place that a program reaches from a node on.
-pub settled-goes : (nodes sets : List ℕ) (set : States) (at : ℕ) → settled nodes sets set at ≡ goesTo (nodeAt nodes) (holdsAt nodes (knownBy sets set) deepest) at
+pub settled-goes : (nodes sets : List ℕ) (set : States) (at : ℕ) → settled nodes sets set at ≡ goesTo (nodeAt nodes) (holdsAt nodes (knownBy sets set)) at
 unfolding settled
 settled-goes nodes sets set at =
     let e : 0 + at ≡ at = omega arith in
-    skipped (nodeAt nodes) (holdsAt nodes (knownBy sets set) deepest) nodeMost at 0 ∙ ap (settledFrom (nodeAt nodes) (holdsAt nodes (knownBy sets set) deepest) (nodeMost - at) 0) e
+    skipped (nodeAt nodes) (holdsAt nodes (knownBy sets set)) nodeMost at 0 ∙ ap (settledFrom (nodeAt nodes) (holdsAt nodes (knownBy sets set)) (nodeMost - at) 0) e
 
 -- An action that it reaches stands at that node or behind it.
 pub settled-forward : (nodes sets : List ℕ) (set : States) (at i a : ℕ) → settled nodes sets set at ≡ Place.Act i a → (at ≤ i) × (i < nodeMost)
 unfolding settled
-settled-forward nodes sets set at i a e = let r = forward (nodeAt nodes) (holdsAt nodes (knownBy sets set) deepest) nodeMost at 0 i a e in (omega arith, omega arith)
+settled-forward nodes sets set at i a e = let r = forward (nodeAt nodes) (holdsAt nodes (knownBy sets set)) nodeMost at 0 i a e in (omega arith, omega arith)
 
--- What holds at a node, by what stands there.
+-- The parts from a node on, joined by "and" (`all`) or "or".
+module _ (node : ℕ → Node) (isKnown : ℕ → Bool) (all : Bool) (inner : (size i : ℕ) → Bool) where
+  -- Skipping nodes is going on behind them.
+  parts-skipped : (size skip i : ℕ) → partsIn node isKnown all inner size skip i ≡ partsIn node isKnown all inner (size - skip) 0 (i + skip)
+  unfolding partsIn
+  parts-skipped zero skip i = let e : 0 - skip ≡ 0 = omega arith in rw e
+  parts-skipped (suc size) (suc skip) i =
+      let l : suc size - suc skip ≡ size - skip = omega arith in
+      let j : i + suc skip ≡ suc i + skip = omega arith in
+      rw (l, j) (parts-skipped size skip (suc i))
+  parts-skipped (suc size) zero i =
+      let e : suc size - 0 ≡ suc size = omega arith in
+      let j : i + 0 ≡ i = omega arith in
+      rw (e, j)
+
+  parts-here : (size i : ℕ) → partsIn node isKnown all inner (suc size) 0 i ≡ partNode isKnown all (λ n. inner (min n size) (suc i)) (λ skip. partsIn node isKnown all inner size skip (suc i)) (node i)
+  unfolding partsIn
+  parts-here size i = refl
+
+  -- What a node says, by what is said of the parts behind it.
+  part-same : (most i : ℕ) (x : Node) {f g : ℕ → Bool} → ((skip : ℕ) → f skip ≡ g skip)
+      → partNode isKnown all (λ n. inner (min n most) (suc i)) f x ≡ partNode isKnown all (λ n. inner (min n most) (i + 1)) g x
+  unfolding partNode
+  part-same most i (Node.Atom positive k) h = ap (joined all (atomHolds isKnown positive k)) (h 0)
+  part-same most i (Node.Join both size) h = let s : suc i ≡ i + 1 = omega arith in λ j. if Bool·beq both all then h 0 j else joined all (inner (min size most) (s j)) (h size j)
+  part-same most i (Node.Act a number) h = refl
+  part-same most i (Node.Branch met unmet) h = refl
+  part-same most i (Node.Jump skip) h = refl
+  part-same most i (Node.End count) h = refl
+
+  -- The parts from node i to an end.
+  abbrev pub partsTo : (end i : ℕ) → Bool
+  partsTo end i = partsIn node isKnown all inner (end - i) 0 i
+
+  pub parts-by : (end i : ℕ) → i < end → (x : Node) → x ≡ node i → partsTo end i ≡ partNode isKnown all (λ n. inner (min n (end - (i + 1))) (i + 1)) (λ skip. partsTo end (i + 1 + skip)) x
+  parts-by end i h x e =
+      let l : end - i ≡ suc (end - (i + 1)) = omega arith in
+      ap (λ (n : ℕ). partsIn node isKnown all inner n 0 i) l ∙ parts-here (end - (i + 1)) i
+      ∙ ap (partNode isKnown all (λ n. inner (min n (end - (i + 1))) (suc i)) (λ skip. partsIn node isKnown all inner (end - (i + 1)) skip (suc i))) (sym e)
+      ∙ part-same (end - (i + 1)) i x onward
+    where
+      onward : (skip : ℕ) → partsIn node isKnown all inner (end - (i + 1)) skip (suc i) ≡ partsTo end (i + 1 + skip)
+      onward skip =
+          let l : end - (i + 1) - skip ≡ end - (i + 1 + skip) = omega arith in
+          let j : suc i + skip ≡ i + 1 + skip = omega arith in
+          parts-skipped (end - (i + 1)) skip (suc i) ∙ rw (l, j)
+
+  -- Behind the last there is no part that fails of all, and none that holds of some.
+  pub parts-past : (end i : ℕ) → end ≤ i → partsTo end i ≡ all
+  unfolding partsIn
+  parts-past end i h = let e : end - i ≡ 0 = omega arith in rw e
+
+  -- An atom; a part joined in the same way; one joined the other way.
+  pub parts-atom : (end i : ℕ) → i < end → (positive : Bool) (k : ℕ) → Node.Atom positive k ≡ node i → partsTo end i ≡ joined all (atomHolds isKnown positive k) (partsTo end (i + 1))
+  unfolding partNode
+  parts-atom end i h positive k e = let j : i + 1 + 0 ≡ i + 1 = omega arith in parts-by end i h (Node.Atom positive k) e ∙ ap (λ (v : ℕ). joined all (atomHolds isKnown positive k) (partsTo end v)) j
+
+  pub parts-alike : (end i : ℕ) → i < end → (both : Bool) (size : ℕ) → Node.Join both size ≡ node i → Bool·beq both all ≡ true → partsTo end i ≡ partsTo end (i + 1)
+  unfolding partNode if_then_else_
+  parts-alike end i h both size e t =
+      let j : i + 1 + 0 ≡ i + 1 = omega arith in
+      parts-by end i h (Node.Join both size) e ∙ ap (λ (b : Bool). if b then partsTo end (i + 1 + 0) else joined all (inner (min size (end - (i + 1))) (i + 1)) (partsTo end (i + 1 + size))) t ∙ ap (partsTo end) j
+
+  pub parts-other : (end i : ℕ) → i < end → (both : Bool) (size : ℕ) → Node.Join both size ≡ node i → Bool·beq both all ≡ false
+      → partsTo end i ≡ joined all (inner (min size (end - (i + 1))) (i + 1)) (partsTo end (i + 1 + size))
+  unfolding partNode if_then_else_
+  parts-other end i h both size e f =
+      parts-by end i h (Node.Join both size) e ∙ ap (λ (b : Bool). if b then partsTo end (i + 1 + 0) else joined all (inner (min size (end - (i + 1))) (i + 1)) (partsTo end (i + 1 + size))) f
+
+-- The parts in a memory, where a level is left, and where none is.
 module _ (nodes : List ℕ) (isKnown : ℕ → Bool) where
-  pub holds-none : (left i : ℕ) → left ≡ 0 → false ≡ holdsAt nodes isKnown left i
+  pub parts-none : (left : ℕ) (all : Bool) (size i : ℕ) → left ≡ 0 → false ≡ partsHold nodes isKnown left all size i
+  unfolding partsHold
+  parts-none left all size i e = rw e
+
+  pub parts-to : (left : ℕ) (all : Bool) (end i : ℕ) → 0 < left → partsHold nodes isKnown left all (end - i) i ≡ partsTo (nodeAt nodes) isKnown all (partsHold nodes isKnown (left - 1) (not all)) end i
+  unfolding partsHold
+  parts-to (suc left) all end i h = let l : suc left - 1 ≡ left = omega arith in rw l
+  parts-to zero all end i h = absurd (omega arith)
+
+  -- What holds at a node, by what stands there.
+  pub holds-by : (i : ℕ) (x : Node) → x ≡ nodeAt nodes i → formulaNode isKnown (λ all size. partsHold nodes isKnown (deepest - 1) all size (i + 1)) x ≡ holdsAt nodes isKnown i
   unfolding holdsAt
-  holds-none left i e = rw e
+  holds-by i x e = ap (formulaNode isKnown (λ all size. partsHold nodes isKnown (deepest - 1) all size (i + 1))) e
 
-  pub holds-by : (left i : ℕ) → 0 < left → (x : Node) → x ≡ nodeAt nodes i → formulaNode isKnown (λ skip. holdsAt nodes isKnown (left - 1) (i + 1 + skip)) x ≡ holdsAt nodes isKnown left i
-  unfolding holdsAt
-  holds-by (suc left) i h x e =
-      let l : suc left - 1 ≡ left = omega arith in
-      rw l (ap (formulaNode isKnown (λ skip. holdsAt nodes isKnown left (i + 1 + skip))) e)
-  holds-by zero i h x e = absurd (omega arith)
-
-  -- An atom; two parts.
-  pub atom-holds : (left i : ℕ) → 0 < left → (positive : Bool) (k : ℕ) → Node.Atom positive k ≡ nodeAt nodes i → atomHolds isKnown positive k ≡ holdsAt nodes isKnown left i
+  pub atom-holds : (i : ℕ) (positive : Bool) (k : ℕ) → Node.Atom positive k ≡ nodeAt nodes i → atomHolds isKnown positive k ≡ holdsAt nodes isKnown i
   unfolding formulaNode
-  atom-holds left i h positive k e = holds-by left i h (Node.Atom positive k) e
+  atom-holds i positive k e = holds-by i (Node.Atom positive k) e
 
-  pub join-holds : (left i : ℕ) → 0 < left → (all : Bool) (size : ℕ) → Node.Join all size ≡ nodeAt nodes i
-      → joined all (holdsAt nodes isKnown (left - 1) (i + 1)) (holdsAt nodes isKnown (left - 1) (i + 1 + size)) ≡ holdsAt nodes isKnown left i
+  pub join-holds : (i : ℕ) (all : Bool) (size : ℕ) → Node.Join all size ≡ nodeAt nodes i → partsHold nodes isKnown (deepest - 1) all size (i + 1) ≡ holdsAt nodes isKnown i
   unfolding formulaNode
-  join-holds left i h all size e =
-      let first : i + 1 + 0 ≡ i + 1 = omega arith in
-      ap (λ (v : ℕ). joined all (holdsAt nodes isKnown (left - 1) v) (holdsAt nodes isKnown (left - 1) (i + 1 + size))) (sym first) ∙ holds-by left i h (Node.Join all size) e
+  join-holds i all size e = holds-by i (Node.Join all size) e
 
-  -- Where no level is left neither part holds.
-  pub none-joined : (left i j : ℕ) (all : Bool) → left ≡ 0 → false ≡ joined all (holdsAt nodes isKnown left i) (holdsAt nodes isKnown left j)
-  unfolding joined
-  none-joined left i j true e = rw (← holds-none left i e)
-  none-joined left i j false e = rw (← holds-none left i e, ← holds-none left j e)
-
--- Two parts of which the first decides, or doesn't.
-pub first-decides : (all first x y : Bool) → not (Bool·beq first all) ≡ true → first ≡ x → first ≡ joined all x y
+-- A part that decides, or doesn't.
+pub part-decides : (all part x rest : Bool) → not (Bool·beq part all) ≡ true → part ≡ x → not all ≡ joined all x rest
 unfolding joined
-first-decides true true x y n e = absurd (not-both n refl)
-first-decides true false x y n e = rw (← e)
-first-decides false true x y n e = rw (← e)
-first-decides false false x y n e = absurd (not-both n refl)
+part-decides true true x rest n e = absurd (not-both n refl)
+part-decides true false x rest n e = rw (← e)
+part-decides false true x rest n e = rw (← e)
+part-decides false false x rest n e = absurd (not-both n refl)
 
-pub second-decides : (all first x y : Bool) → not (Bool·beq first all) ≡ false → first ≡ x → y ≡ joined all x y
+pub rest-decides : (all part x rest : Bool) → not (Bool·beq part all) ≡ false → part ≡ x → joined all x rest ≡ rest
 unfolding joined
-second-decides true true x y n e = rw (← e)
-second-decides true false x y n e = absurd (not-both refl n)
-second-decides false true x y n e = absurd (not-both refl n)
-second-decides false false x y n e = rw (← e)
+rest-decides true true x rest n e = rw (← e)
+rest-decides true false x rest n e = absurd (not-both refl n)
+rest-decides false true x rest n e = absurd (not-both refl n)
+rest-decides false false x rest n e = rw (← e)
+
+-- Two ways to join are the same, or one is the other's other.
+pub alike : (both all : Bool) → not (Bool·beq both all) ≡ false → Bool·beq both all ≡ true
+alike true true n = refl
+alike true false n = absurd (not-both refl n)
+alike false true n = absurd (not-both refl n)
+alike false false n = refl
+
+pub other-way : (both all : Bool) → not (Bool·beq both all) ≡ true → (Bool·beq both all ≡ false) × (both ≡ not all)
+other-way true true n = absurd (not-both n refl)
+other-way true false n = (refl, refl)
+other-way false true n = (refl, refl)
+other-way false false n = absurd (not-both n refl)
 
 -- An atom holds exactly if its flag says whether its formula is known.
 pub atom-known : (isKnown : ℕ → Bool) (positive : Bool) (k : ℕ) → Bool·beq (isKnown k) positive ≡ atomHolds isKnown positive k
@@ -176,7 +251,7 @@ atom-known isKnown false k = other (isKnown k)
     other false = refl
 
 -- A node that isn't the end stands inside the memory.
-pub node-inside : (nodes : List ℕ) (i : ℕ) (x : Node) → x ≡ nodeAt nodes i → (x ≡ Node.End 0 → ⊥) → i < nodeMost
+node-inside : (nodes : List ℕ) (i : ℕ) (x : Node) → x ≡ nodeAt nodes i → (x ≡ Node.End 0 → ⊥) → i < nodeMost
 unfolding nodeAt
 node-inside nodes i x e n = go (ltb i nodeMost) refl
   where
@@ -194,28 +269,38 @@ none-of n h (inr (inl e)) = omega arith
 none-of n h (inr (inr (inl e))) = omega arith
 none-of n h (inr (inr (inr e))) = omega arith
 
-pub no-formula : (isKnown part : ℕ → Bool) (x : Node) → OneOf (0 ∷ 1 ∷ 2 ∷ 3 ∷ []) (tagOf the-type x) → false ≡ formulaNode isKnown part x
+pub no-part : (isKnown : ℕ → Bool) (all : Bool) (inner rest : ℕ → Bool) (x : Node) → OneOf (0 ∷ 1 ∷ 2 ∷ 3 ∷ []) (tagOf the-type x) → partNode isKnown all inner rest x ≡ false
+unfolding partNode
+no-part isKnown all inner rest (Node.Act a number) t = refl
+no-part isKnown all inner rest (Node.Branch met unmet) t = refl
+no-part isKnown all inner rest (Node.Jump skip) t = refl
+no-part isKnown all inner rest (Node.End count) t = refl
+no-part isKnown all inner rest (Node.Join both size) t = absurd (none-of 4 (omega arith) t)
+no-part isKnown all inner rest (Node.Atom positive k) t = absurd (none-of 5 (omega arith) t)
+
+pub no-formula : (isKnown : ℕ → Bool) (parts : Bool → ℕ → Bool) (x : Node) → OneOf (0 ∷ 1 ∷ 2 ∷ 3 ∷ []) (tagOf the-type x) → false ≡ formulaNode isKnown parts x
 unfolding formulaNode
-no-formula isKnown part (Node.Act a number) t = refl
-no-formula isKnown part (Node.Branch met unmet) t = refl
-no-formula isKnown part (Node.Jump skip) t = refl
-no-formula isKnown part (Node.End count) t = refl
-no-formula isKnown part (Node.Join all size) t = absurd (none-of 4 (omega arith) t)
-no-formula isKnown part (Node.Atom positive k) t = absurd (none-of 5 (omega arith) t)
+no-formula isKnown parts (Node.Act a number) t = refl
+no-formula isKnown parts (Node.Branch met unmet) t = refl
+no-formula isKnown parts (Node.Jump skip) t = refl
+no-formula isKnown parts (Node.End count) t = refl
+no-formula isKnown parts (Node.Join all size) t = absurd (none-of 4 (omega arith) t)
+no-formula isKnown parts (Node.Atom positive k) t = absurd (none-of 5 (omega arith) t)
 
--- A node of a formula is an end at which the goal fails.
-none-of-program : (n : ℕ) → n < 4 → OneOf (4 ∷ 5 ∷ []) n → ⊥
+-- A node by its tag: an end, none of the program's others.
+none-of-program : (n : ℕ) → n < 3 → OneOf (3 ∷ 4 ∷ 5 ∷ []) n → ⊥
 none-of-program n h (inl e) = omega arith
-none-of-program n h (inr e) = omega arith
+none-of-program n h (inr (inl e)) = omega arith
+none-of-program n h (inr (inr e)) = omega arith
 
-pub no-program : (formula : ℕ → Bool) (x : Node) (i : ℕ) (onward : ℕ → Place) → OneOf (4 ∷ 5 ∷ []) (tagOf the-type x) → atNode formula x i onward ≡ Place.End false
+pub at-end : (formula : ℕ → Bool) (x : Node) (i : ℕ) (onward : ℕ → Place) → OneOf (3 ∷ 4 ∷ 5 ∷ []) (tagOf the-type x) → atNode formula x i onward ≡ Place.End (formula goalNode)
 unfolding atNode
-no-program formula (Node.Act a number) i onward t = absurd (none-of-program 0 (omega arith) t)
-no-program formula (Node.Branch met unmet) i onward t = absurd (none-of-program 1 (omega arith) t)
-no-program formula (Node.Jump skip) i onward t = absurd (none-of-program 2 (omega arith) t)
-no-program formula (Node.End count) i onward t = absurd (none-of-program 3 (omega arith) t)
-no-program formula (Node.Join all size) i onward t = refl
-no-program formula (Node.Atom positive k) i onward t = refl
+at-end formula (Node.Act a number) i onward t = absurd (none-of-program 0 (omega arith) t)
+at-end formula (Node.Branch met unmet) i onward t = absurd (none-of-program 1 (omega arith) t)
+at-end formula (Node.Jump skip) i onward t = absurd (none-of-program 2 (omega arith) t)
+at-end formula (Node.End count) i onward t = refl
+at-end formula (Node.Join all size) i onward t = refl
+at-end formula (Node.Atom positive k) i onward t = refl
 
 -- What is known in a set: no state of it is outside the other set.
 module _ (sets : List ℕ) (set : States) (k : ℕ) where

@@ -1,13 +1,13 @@
 -- Formulas and programs that stand among the nodes of a memory: whether they hold, and where they settle. Assumes nothing.
-use Prim.Native.Nat.{ℕ, suc, _+_, _-_, _<_, _≤_}
+use Prim.Native.Nat.{ℕ, suc, _+_, _-_, _<_, _≤_, min}
 use mathlib.Core.Path.{_≡_, refl, ap, subst, sym, _∙_}
 use mathlib.Core.Logic.{_⊎_, inl, inr}
 use mathlib.Core.List.{List, [], _∷_, _++_}
-use mathlib.Core.Bool.{Bool, true, false, not, _&&_, _||_}
+use mathlib.Core.Bool.{Bool, true, false, not, Bool·beq}
 use native.Mathlib.Omega.{arith}
 use lib.ListN.{length, getD, length-append, List·getD-append}
 use Rattle.lists.specs.Lists.{if_then_else_, every}
-use Rattle.lists.proofs.ListLaws.{every-same, append-past}
+use Rattle.lists.proofs.ListLaws.{not-both, every-same, append-past}
 use Rattle.states.specs.declared.States.{States}
 use Rattle.states.specs.Sets.{member, setOf, members}
 use Rattle.states.proofs.SetLaws.{member-setOf, members-mem}
@@ -24,8 +24,8 @@ use Rattle.routine.specs.Tables.{atoms, atomSets, formulaSize, formulaNodes, si
 use Rattle.routine.proofs.SizeLaws.{formula-length, atom-sets-length, nodes-length, program-sets-length}
 use Rattle.routine.proofs.TableLaws.{noStates, noNode}
 use Rattle.progression.specs.declared.place.Place.{Place}
-use Rattle.progression.specs.Machine.{knownBy, atomHolds, joined, holdsAt, atNode}
-use Rattle.progression.proofs.MachineLaws.{goesTo, goes-by, atom-holds, join-holds}
+use Rattle.progression.specs.Machine.{knownBy, atomHolds, joined, partsHold, holdsAt, atNode}
+use Rattle.progression.proofs.MachineLaws.{goesTo, goes-by, partsTo, parts-past, parts-atom, parts-alike, parts-other, parts-to, other-way, atom-holds, join-holds}
 use Rattle.progression.proofs.PolicyLaws.{leftOf, allLeft}
 
 -- Items stand one behind the other from place i on, where `get` tells what stands at a place.
@@ -49,13 +49,42 @@ pub table-known : (table : ℕ → States) (set : States) (k : ℕ) (f : Objecti
 table-known table set k f e =
     every-same (member (table k)) (holds f) (members set) (λ s m. ap (λ (u : States). member u s) e ∙ member-setOf (λ t. holds f t) s (members-mem set m .0))
 
+-- A formula has a level, and is as shallow if more levels are left.
+some-level : (f : Epistemic) (left : ℕ) → Levels f left → 0 < left
+unfolding Levels
+some-level (known f) left d = omega arith
+some-level (not-known f) left d = omega arith
+some-level (all-of f g) left d = omega (arith, d .0)
+some-level (any-of f g) left d = omega (arith, d .0)
+
+more-levels : (f : Epistemic) (left : ℕ) → Levels f (left - 1) → Levels f left
+unfolding Levels
+more-levels (known f) left d = omega arith
+more-levels (not-known f) left d = omega arith
+more-levels (all-of f g) left d = (omega (arith, d .0), more-levels f (left - 1) (d .1), more-levels g (left - 1) (d .2))
+more-levels (any-of f g) left d = (omega (arith, d .0), more-levels f (left - 1) (d .1), more-levels g (left - 1) (d .2))
+
+-- A part joined with none; parts joined in the same way.
+joined-none : (all x : Bool) → joined all x all ≡ x
+unfolding joined
+joined-none true true = refl
+joined-none true false = refl
+joined-none false true = refl
+joined-none false false = refl
+
+joined-twice : (both all x y rest : Bool) → Bool·beq both all ≡ true → joined all x (joined all y rest) ≡ joined all (joined both x y) rest
+unfolding joined
+joined-twice true true true y rest t = refl
+joined-twice true true false y rest t = refl
+joined-twice false false true y rest t = refl
+joined-twice false false false y rest t = refl
+joined-twice true false x y rest t = absurd (not-both t refl)
+joined-twice false true x y rest t = absurd (not-both t refl)
+
 module _ (nodes sets : List ℕ) (set : States) where
   -- A formula stands from node i on, and its sets from set k on.
   abbrev FormulaAt : (i k : ℕ) → Epistemic → Type 0
   FormulaAt i k f = Row (nodeAt nodes) noNode i (formulaNodes f k) × Row (setAt sets) noStates k (atomSets f)
-
-  abbrev at : ℕ → ℕ → Bool
-  at = holdsAt nodes (knownBy sets set)
 
   -- Where two parts stand behind a node.
   parts : (f g : Epistemic) (i k : ℕ) (x : Node) → Row (nodeAt nodes) noNode i (x ∷ (formulaNodes f k ++ formulaNodes g (k + atoms f)))
@@ -73,21 +102,88 @@ module _ (nodes sets : List ℕ) (set : States) where
         ),
       )
 
+  abbrev sat : Epistemic → Bool
+  sat = satisfies (members set)
+
+  -- The parts from node i to an end, where `left` levels are left.
+  abbrev partsOf : (left : ℕ) (all : Bool) (stop i : ℕ) → Bool
+  partsOf left all = partsTo (nodeAt nodes) (knownBy sets set) all (partsHold nodes (knownBy sets set) (left - 1) (not all))
+
+  -- A formula at node i is a part: it is joined with those behind it.
+  abbrev IsPart : (left i : ℕ) → Epistemic → Type 0
+  IsPart left i f = (all : Bool) (stop : ℕ) → i + formulaSize f ≤ stop → partsOf left all stop i ≡ joined all (sat f) (partsOf left all stop (i + formulaSize f))
+
+  -- Two formulas one behind the other are joined.
+  two-hold : (left i : ℕ) (f g : Epistemic) → 0 < left → IsPart left i f → IsPart left (i + formulaSize f) g → (all : Bool)
+      → partsHold nodes (knownBy sets set) left all (formulaSize f + formulaSize g) i ≡ joined all (sat f) (sat g)
+  two-hold left i f g h p q all =
+      let stop = i + (formulaSize f + formulaSize g) in
+      let n : formulaSize f + formulaSize g ≡ stop - i = omega arith in
+      ap (λ (v : ℕ). partsHold nodes (knownBy sets set) left all v i) n ∙ parts-to nodes (knownBy sets set) left all stop i h ∙ p all stop (omega arith)
+      ∙ ap (joined all (sat f))
+      (q all stop (omega arith) ∙ ap (joined all (sat g)) (parts-past (nodeAt nodes) (knownBy sets set) all (partsHold nodes (knownBy sets set) (left - 1) (not all)) stop _ (omega arith)) ∙ joined-none all (sat g))
+
+  -- So are they behind a node that joins them, in the same way as the parts around it or the other way.
+  join-part : (left i : ℕ) (f g : Epistemic) (both : Bool) → nodeAt nodes i ≡ Node.Join both (formulaSize f + formulaSize g) → 0 < left - 1
+      → IsPart left (i + 1) f → IsPart left (i + 1 + formulaSize f) g → IsPart (left - 1) (i + 1) f → IsPart (left - 1) (i + 1 + formulaSize f) g
+      → (all : Bool) (stop : ℕ) → i + suc (formulaSize f + formulaSize g) ≤ stop
+      → partsOf left all stop i ≡ joined all (joined both (sat f) (sat g)) (partsOf left all stop (i + suc (formulaSize f + formulaSize g)))
+  join-part left i f g both e h p q p′ q′ all stop l = go (Bool·beq both all) refl
+    where
+      last : i + 1 + formulaSize f + formulaSize g ≡ i + suc (formulaSize f + formulaSize g)
+      last = omega arith
+
+      behind : i + 1 + (formulaSize f + formulaSize g) ≡ i + suc (formulaSize f + formulaSize g)
+      behind = omega arith
+
+      go : (b : Bool) → Bool·beq both all ≡ b → partsOf left all stop i ≡ joined all (joined both (sat f) (sat g)) (partsOf left all stop (i + suc (formulaSize f + formulaSize g)))
+      go true t =
+          parts-alike (nodeAt nodes) (knownBy sets set) all (partsHold nodes (knownBy sets set) (left - 1) (not all)) stop i (omega arith) both (formulaSize f + formulaSize g) (sym e) t
+          ∙ p all stop (omega arith)
+          ∙ ap (joined all (sat f)) (q all stop (omega arith) ∙ ap (λ (j : ℕ). joined all (sat g) (partsOf left all stop j)) last)
+          ∙ joined-twice both all (sat f) (sat g) (partsOf left all stop (i + suc (formulaSize f + formulaSize g))) t
+      go false t =
+          let m : min (formulaSize f + formulaSize g) (stop - (i + 1)) ≡ formulaSize f + formulaSize g = omega arith in
+          parts-other (nodeAt nodes) (knownBy sets set) all (partsHold nodes (knownBy sets set) (left - 1) (not all)) stop i (omega arith) both (formulaSize f + formulaSize g) (sym e) t
+          ∙ ap (λ (x : Bool). joined all x (partsOf left all stop (i + 1 + (formulaSize f + formulaSize g))))
+          (ap (λ (n : ℕ). partsHold nodes (knownBy sets set) (left - 1) (not all) n (i + 1)) m ∙ two-hold (left - 1) (i + 1) f g h p′ q′ (not all) ∙ ap (λ (x : Bool). joined x (sat f) (sat g)) (sym (other-way both all (ap not t) .1)))
+          ∙ ap (λ (j : ℕ). joined all (joined both (sat f) (sat g)) (partsOf left all stop j)) behind
+
+  -- A formula of at most so many levels is a part.
+  is-part : (f : Epistemic) (left i k : ℕ) → Levels f left → FormulaAt i k f → IsPart left i f
+  unfolding formulaNodes formulaSize atomSets Levels satisfies atomHolds joined knownBy
+  is-part (known f) left i k d (r, s) all stop l =
+      parts-atom (nodeAt nodes) (knownBy sets set) all (partsHold nodes (knownBy sets set) (left - 1) (not all)) stop i (omega arith) true k (sym (row-first (nodeAt nodes) noNode i _ [] r))
+      ∙ ap (λ (x : Bool). joined all x (partsOf left all stop (i + 1))) (table-known (setAt sets) set k f (row-first (setAt sets) noStates k _ [] s))
+  is-part (not-known f) left i k d (r, s) all stop l =
+      parts-atom (nodeAt nodes) (knownBy sets set) all (partsHold nodes (knownBy sets set) (left - 1) (not all)) stop i (omega arith) false k (sym (row-first (nodeAt nodes) noNode i _ [] r))
+      ∙ ap (λ (x : Bool). joined all (not x) (partsOf left all stop (i + 1))) (table-known (setAt sets) set k f (row-first (setAt sets) noStates k _ [] s))
+  is-part (all-of f g) left i k d (r, s) all stop l =
+      let p = parts f g i k _ r s in
+      join-part left i f g true (row-first (nodeAt nodes) noNode i _ (formulaNodes f k ++ formulaNodes g (k + atoms f)) r) (some-level f (left - 1) (d .1))
+      (is-part f left (i + 1) k (more-levels f left (d .1)) (p .0)) (is-part g left (i + 1 + formulaSize f) (k + atoms f) (more-levels g left (d .2)) (p .1))
+      (is-part f (left - 1) (i + 1) k (d .1) (p .0)) (is-part g (left - 1) (i + 1 + formulaSize f) (k + atoms f) (d .2) (p .1)) all stop l
+  is-part (any-of f g) left i k d (r, s) all stop l =
+      let p = parts f g i k _ r s in
+      join-part left i f g false (row-first (nodeAt nodes) noNode i _ (formulaNodes f k ++ formulaNodes g (k + atoms f)) r) (some-level f (left - 1) (d .1))
+      (is-part f left (i + 1) k (more-levels f left (d .1)) (p .0)) (is-part g left (i + 1 + formulaSize f) (k + atoms f) (more-levels g left (d .2)) (p .1))
+      (is-part f (left - 1) (i + 1) k (d .1) (p .0)) (is-part g (left - 1) (i + 1 + formulaSize f) (k + atoms f) (d .2) (p .1)) all stop l
+
   -- A formula holds on its nodes as it does in the knowledge state.
-  pub formula-holds : (f : Epistemic) (left i k : ℕ) → Levels f left → FormulaAt i k f → at left i ≡ satisfies (members set) f
+  pub formula-holds : (f : Epistemic) (i k : ℕ) → Levels f deepest → FormulaAt i k f → holdsAt nodes (knownBy sets set) i ≡ satisfies (members set) f
   unfolding formulaNodes atomSets Levels satisfies atomHolds joined knownBy
-  formula-holds (known f) left i k d (r, s) =
-      sym (atom-holds nodes (knownBy sets set) left i d true k (sym (row-first (nodeAt nodes) noNode i _ [] r))) ∙ table-known (setAt sets) set k f (row-first (setAt sets) noStates k _ [] s)
-  formula-holds (not-known f) left i k d (r, s) =
-      sym (atom-holds nodes (knownBy sets set) left i d false k (sym (row-first (nodeAt nodes) noNode i _ [] r))) ∙ ap not (table-known (setAt sets) set k f (row-first (setAt sets) noStates k _ [] s))
-  formula-holds (all-of f g) left i k d (r, s) =
+  formula-holds (known f) i k d (r, s) =
+      sym (atom-holds nodes (knownBy sets set) i true k (sym (row-first (nodeAt nodes) noNode i _ [] r))) ∙ table-known (setAt sets) set k f (row-first (setAt sets) noStates k _ [] s)
+  formula-holds (not-known f) i k d (r, s) =
+      sym (atom-holds nodes (knownBy sets set) i false k (sym (row-first (nodeAt nodes) noNode i _ [] r))) ∙ ap not (table-known (setAt sets) set k f (row-first (setAt sets) noStates k _ [] s))
+  formula-holds (all-of f g) i k d (r, s) =
       let p = parts f g i k _ r s in
-      sym (join-holds nodes (knownBy sets set) left i (d .0) true (formulaSize f) (sym (row-first (nodeAt nodes) noNode i _ (formulaNodes f k ++ formulaNodes g (k + atoms f)) r)))
-      ∙ (λ j. formula-holds f (left - 1) (i + 1) k (d .1) (p .0) j && formula-holds g (left - 1) (i + 1 + formulaSize f) (k + atoms f) (d .2) (p .1) j)
-  formula-holds (any-of f g) left i k d (r, s) =
+      sym (join-holds nodes (knownBy sets set) i true (formulaSize f + formulaSize g) (sym (row-first (nodeAt nodes) noNode i _ (formulaNodes f k ++ formulaNodes g (k + atoms f)) r)))
+      ∙ two-hold (deepest - 1) (i + 1) f g (omega arith) (is-part f (deepest - 1) (i + 1) k (d .1) (p .0)) (is-part g (deepest - 1) (i + 1 + formulaSize f) (k + atoms f) (d .2) (p .1)) true
+  formula-holds (any-of f g) i k d (r, s) =
       let p = parts f g i k _ r s in
-      sym (join-holds nodes (knownBy sets set) left i (d .0) false (formulaSize f) (sym (row-first (nodeAt nodes) noNode i _ (formulaNodes f k ++ formulaNodes g (k + atoms f)) r)))
-      ∙ (λ j. formula-holds f (left - 1) (i + 1) k (d .1) (p .0) j || formula-holds g (left - 1) (i + 1 + formulaSize f) (k + atoms f) (d .2) (p .1) j)
+      sym (join-holds nodes (knownBy sets set) i false (formulaSize f + formulaSize g) (sym (row-first (nodeAt nodes) noNode i _ (formulaNodes f k ++ formulaNodes g (k + atoms f)) r)))
+      ∙ two-hold (deepest - 1) (i + 1) f g (omega arith) (is-part f (deepest - 1) (i + 1) k (d .1) (p .0)) (is-part g (deepest - 1) (i + 1 + formulaSize f) (k + atoms f) (d .2) (p .1)) false
 
 -- What stands in a memory: the end of the program at node `end-at`; there are `count` actions.
 module _ (nodes sets : List ℕ) (end-at count : ℕ) where
@@ -176,10 +272,10 @@ module _ (nodes sets : List ℕ) (end-at count : ℕ) where
 
   module _ (set : States) where
     abbrev goes : ℕ → Place
-    goes = goesTo (nodeAt nodes) (holdsAt nodes (knownBy sets set) deepest)
+    goes = goesTo (nodeAt nodes) (holdsAt nodes (knownBy sets set))
 
-    by : (i : ℕ) (x : Node) → i < nodeMost → nodeAt nodes i ≡ x → goes i ≡ atNode (holdsAt nodes (knownBy sets set) deepest) x i (λ skip. goes (i + 1 + skip))
-    by i x l e = goes-by (nodeAt nodes) (holdsAt nodes (knownBy sets set) deepest) i l x (sym e)
+    by : (i : ℕ) (x : Node) → i < nodeMost → nodeAt nodes i ≡ x → goes i ≡ atNode (holdsAt nodes (knownBy sets set)) x i (λ skip. goes (i + 1 + skip))
+    by i x l e = goes-by (nodeAt nodes) (holdsAt nodes (knownBy sets set)) i l x (sym e)
 
     leads-go : (i out : ℕ) → Leads i out → goes i ≡ goes out
     unfolding atNode
@@ -200,7 +296,7 @@ module _ (nodes sets : List ℕ) (end-at count : ℕ) where
     unfolding atNode
     branch-goes i f y z rest ps b =
         by i _ (b .inside) (b .here)
-        ∙ ap (λ (x : Bool). goes (i + 1 + (if x then formulaSize f else formulaSize f + suc (size y)))) (formula-holds nodes sets set f deepest (i + 1) (b .first-set) (b .shallow) (b .condition))
+        ∙ ap (λ (x : Bool). goes (i + 1 + (if x then formulaSize f else formulaSize f + suc (size y)))) (formula-holds nodes sets set f (i + 1) (b .first-set) (b .shallow) (b .condition))
 
     program-settles : (p : Program) (ps onward : List Program) → ((i : ℕ) → ProgramsAt i ps → Settles i onward) → (i : ℕ) → ProgramsAt i (p ∷ ps)
         → Settles i (leftOf (satisfies (members set)) p ps onward)
@@ -247,4 +343,4 @@ module _ (nodes sets : List ℕ) (end-at count : ℕ) where
         → goes end-at ≡ Place.End (satisfies (members set) goal)
     unfolding atNode
     goal-settles goal k c d r g s =
-        by end-at _ (omega (arith, r .1)) (row-first (nodeAt nodes) noNode end-at (Node.End c) [] (r .0)) ∙ ap Place.End (formula-holds nodes sets set goal deepest goalNode k d (g, s))
+        by end-at _ (omega (arith, r .1)) (row-first (nodeAt nodes) noNode end-at (Node.End c) [] (r .0)) ∙ ap Place.End (formula-holds nodes sets set goal goalNode k d (g, s))

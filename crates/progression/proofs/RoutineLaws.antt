@@ -176,7 +176,7 @@ module _ (sheet : Sheet) (heads nodes sets : List ℕ) where
     -- Where the states of a set are possible that were reached by a history.
     module _ (h : History) (i : ℕ) (set : States) (reached : Reached h i set) where
       abbrev at : ℕ → Place
-      at = goesTo (nodeAt nodes) (holdsAt nodes (knownBy sets set) deepest)
+      at = goesTo (nodeAt nodes) (holdsAt nodes (knownBy sets set))
 
       abbrev Settling : List Program → Type 0
       Settling qs = Settles nodes sets end-at count set i qs

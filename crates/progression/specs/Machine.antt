@@ -1,8 +1,8 @@
 -- The tables as a machine, whatever numbers are in the memory: where the program settles, and one step of the set of possible states.
-use Prim.Native.Nat.{ℕ, zero, suc, _+_, _<_}
+use Prim.Native.Nat.{ℕ, zero, suc, _+_, _-_, _<_, min}
 use mathlib.Core.Path.{_≡_, refl}
 use mathlib.Core.List.{List, [], _∷_}
-use mathlib.Core.Bool.{Bool, true, false, not, _&&_, _||_}
+use mathlib.Core.Bool.{Bool, true, false, not, _&&_, _||_, Bool·beq}
 use lib.Dec.{ltb}
 use Rattle.lists.specs.Lists.{if_then_else_, upFrom, below, every, exists}
 use Rattle.states.specs.declared.States.{States}
@@ -37,32 +37,57 @@ unfoldable pub joined : (all first second : Bool) → Bool
 joined true first second = first && second
 joined false first second = first || second
 
--- What a node of a formula says, where `part` tells whether the part so many nodes behind the next one holds. Other nodes are no formula.
-unfoldable pub formulaNode : (isKnown part : ℕ → Bool) → Node → Bool
-unfolding atomHolds joined
-formulaNode isKnown part (Node.Atom positive k) = atomHolds isKnown positive k
-formulaNode isKnown part (Node.Join all size) = joined all (part 0) (part size)
-formulaNode isKnown part (Node.Act a number) = false
-formulaNode isKnown part (Node.Branch met unmet) = false
-formulaNode isKnown part (Node.Jump skip) = false
-formulaNode isKnown part (Node.End count) = false
+-- What a node says of the parts of a formula from it on, joined by "and" (`all`) or "or". `rest` tells of those behind it, so many nodes further. A part that is joined in
+-- the same way stands for its parts; `inner` tells of one that is joined the other way, by how many nodes its parts have. Other nodes are no part.
+unfoldable pub partNode : (isKnown : ℕ → Bool) (all : Bool) (inner rest : ℕ → Bool) → Node → Bool
+unfolding atomHolds joined if_then_else_
+partNode isKnown all inner rest (Node.Atom positive k) = joined all (atomHolds isKnown positive k) (rest 0)
+partNode isKnown all inner rest (Node.Join both size) = if Bool·beq both all then rest 0 else joined all (inner size) (rest size)
+partNode isKnown all inner rest (Node.Act a number) = false
+partNode isKnown all inner rest (Node.Branch met unmet) = false
+partNode isKnown all inner rest (Node.Jump skip) = false
+partNode isKnown all inner rest (Node.End count) = false
 
--- Whether the formula at node i holds, by what is known. `left` levels are left: "Depth 16 is the deepest allowed." Where no formula stands, or a deeper one, nothing holds.
-unfoldable pub holdsAt : (nodes : List ℕ) (isKnown : ℕ → Bool) (left i : ℕ) → Bool
-unfolding formulaNode nodeAt
-holdsAt nodes isKnown zero i = false
-holdsAt nodes isKnown (suc left) i = formulaNode isKnown (λ skip. holdsAt nodes isKnown left (i + 1 + skip)) (nodeAt nodes i)
+-- Whether all parts hold (`all`), or one of them, that stand in `size` nodes from node i on, the first `skip` nodes being skipped. `inner` tells it of the parts of one
+-- that is joined the other way: how many nodes they have, cut at the last of the `size`, and from which on.
+unfoldable pub partsIn : (node : ℕ → Node) (isKnown : ℕ → Bool) (all : Bool) (inner : (size i : ℕ) → Bool) (size skip i : ℕ) → Bool
+unfolding partNode
+partsIn node isKnown all inner zero skip i = all
+partsIn node isKnown all inner (suc size) (suc skip) i = partsIn node isKnown all inner size skip (suc i)
+partsIn node isKnown all inner (suc size) zero i = partNode isKnown all (λ n. inner (min n size) (suc i)) (λ skip. partsIn node isKnown all inner size skip (suc i)) (node i)
+
+-- The same in a memory. `left` levels are left, of which a part that is joined the other way takes one; a part that needs more doesn't hold. ("Depth 16 is the deepest
+-- allowed.")
+unfoldable pub partsHold : (nodes : List ℕ) (isKnown : ℕ → Bool) (left : ℕ) (all : Bool) (size i : ℕ) → Bool
+unfolding partsIn nodeAt
+partsHold nodes isKnown zero all size i = false
+partsHold nodes isKnown (suc left) all size i = partsIn (nodeAt nodes) isKnown all (partsHold nodes isKnown left (not all)) size 0 i
+
+-- What the first node of a formula says, where `parts` tells of its parts. Other nodes are no formula.
+unfoldable pub formulaNode : (isKnown : ℕ → Bool) (parts : (all : Bool) (size : ℕ) → Bool) → Node → Bool
+unfolding atomHolds
+formulaNode isKnown parts (Node.Atom positive k) = atomHolds isKnown positive k
+formulaNode isKnown parts (Node.Join all size) = parts all size
+formulaNode isKnown parts (Node.Act a number) = false
+formulaNode isKnown parts (Node.Branch met unmet) = false
+formulaNode isKnown parts (Node.Jump skip) = false
+formulaNode isKnown parts (Node.End count) = false
+
+-- Whether the formula at node i holds, by what is known. Where no formula stands nothing holds.
+unfoldable pub holdsAt : (nodes : List ℕ) (isKnown : ℕ → Bool) (i : ℕ) → Bool
+unfolding formulaNode partsHold nodeAt
+holdsAt nodes isKnown i = formulaNode isKnown (λ all size. partsHold nodes isKnown (deepest - 1) all size (i + 1)) (nodeAt nodes i)
 
 -- A node is where the program settles, or it leads on, so many nodes further. `formula` tells whether the formula at a node holds: a branch goes by that behind it, the
--- end by the goal. A node of a formula is an end at which the goal fails.
+-- end by the goal. A node of a formula is an end too.
 unfoldable pub atNode : (formula : ℕ → Bool) → Node → (i : ℕ) → (onward : (skip : ℕ) → Place) → Place
 unfolding if_then_else_
 atNode formula (Node.Act a number) i onward = Place.Act i a
 atNode formula (Node.Branch met unmet) i onward = onward (if formula (i + 1) then met else unmet)
 atNode formula (Node.Jump skip) i onward = onward skip
 atNode formula (Node.End count) i onward = Place.End (formula goalNode)
-atNode formula (Node.Join all size) i onward = Place.End false
-atNode formula (Node.Atom positive k) i onward = Place.End false
+atNode formula (Node.Join all size) i onward = Place.End (formula goalNode)
+atNode formula (Node.Atom positive k) i onward = Place.End (formula goalNode)
 
 -- Where the program settles from node i on, the first `skip` nodes being skipped: at the program's next action, or at its end. `left` nodes are left from node i on.
 -- Each node leads further forward, and behind the last is an end at which the goal fails.
@@ -74,7 +99,7 @@ settledFrom node formula (suc left) zero i = atNode formula (node i) i (λ skip.
 
 unfoldable pub settled : (nodes sets : List ℕ) → States → (at : ℕ) → Place
 unfolding settledFrom holdsAt nodeAt knownBy
-settled nodes sets set at = settledFrom (nodeAt nodes) (holdsAt nodes (knownBy sets set) deepest) nodeMost at 0
+settled nodes sets set at = settledFrom (nodeAt nodes) (holdsAt nodes (knownBy sets set)) nodeMost at 0
 
 -- An action node where it settles is one of the memory, and its action fits 16 bits.
 unfoldable pub Inside : Place → Type 0
@@ -152,6 +177,16 @@ one-of-two = refl
 other-of-two : judgedBy (any-of (known (fact 0)) (not-known (fact 0))) (low 3) ≡ Place.End true
 unfolding judgedBy
 other-of-two = refl
+
+-- A part that is joined in the same way stands for its parts.
+one-of-three : judgedBy (all-of (all-of (known top) (known (fact 0))) (known top)) (low 3) ≡ Place.End false
+unfolding judgedBy
+one-of-three = refl
+
+-- A part that is joined the other way is judged by itself, and the parts behind it too.
+and-in-or : judgedBy (any-of (all-of (known (fact 0)) (known top)) (known top)) (low 3) ≡ Place.End true
+unfolding judgedBy
+and-in-or = refl
 
 -- A first part of several nodes is skipped as a whole.
 second-behind : judgedBy (all-of (any-of (known top) (known (fact 0))) (not-known (fact 0))) (low 2) ≡ Place.End false

@@ -9,11 +9,8 @@ use routine::node_at;
 use routine::set_at;
 use states::States;
 ghost use mathlib.Core.Path.{_≡_};
-ghost use Prim.Native.Nat.{_+_, _≤_, _<_};
-ghost use Rattle.states.specs.Sets.{ofWords};
-ghost use Rattle.format.specs.Format.{deepest};
-ghost use Rattle.routine.specs.Memory.{nodeMost};
-ghost use Rattle.progression.specs.Machine.{knownBy, atomHolds, joined, holdsAt, settled, Inside};
+ghost use Prim.Native.Nat.{_-_, min};
+ghost use Rattle.progression.specs.Machine.{knownBy, atomHolds, partsHold, holdsAt, settled, Inside};
 
 // An action node with its action, or the end and whether the goal holds there.
 pub enum Place {
@@ -28,61 +25,83 @@ pub fn known(sets: &[u64; SET_WORDS], k: usize, set: States) -> bool
     set.difference(set_at(sets, k)).is_empty()
 }
 
-// Whether an atom, "known" or "not known" of set k, holds where the states of the set of four words are possible.
-fn atom_holds(
-    sets: &[u64; SET_WORDS],
-    words: &[u64; States::WORDS],
-    positive: bool,
-    k: usize,
-) -> bool
-    ensures { λ r. ⌜ r ≡ atomHolds (knownBy (now (sets .entry)) (ofWords (now (words .entry)))) positive k ⌝ }
+// Whether an atom, "known" or "not known" of set k, holds where the states of a set are possible.
+fn atom_holds(sets: &[u64; SET_WORDS], set: States, positive: bool, k: usize) -> bool
+    ensures { λ r. ⌜ r ≡ atomHolds (knownBy (now (sets .entry)) set) positive k ⌝ }
 {
-    known(sets, k, States::of_words(words)) == positive
+    known(sets, k, set) == positive
 }
 
-// Whether both parts (`all`) or one of two hold, of at most `left` levels: the first at node `at` and the second `size`
-// nodes further. A second part that no longer decides is skipped. (A part that is an atom is no call of this function,
-// and the set is lent: a call for every atom, or a copy of the set at each, measured slower.)
+// The lesser of two numbers.
+fn least(a: usize, b: usize) -> usize
+    ensures { λ r. ⌜ r ≡ min a b ⌝ }
+{
+    if a < b {
+        return a;
+    }
+    b
+}
+
+// Whether all parts (`all`), or one of them, hold that stand from node `at` on before node `end`; a part that is joined the
+// other way takes one of the `left` levels. Parts that no longer decide are skipped. (Parts joined in the same way are gone
+// through without a call each, so that chains and trees of one connective cost little more than their atoms. No part goes on
+// behind `end`, so that in any memory a formula meets each node at most once at each level.)
 fn parts_hold(
     nodes: &[u16; NODE_CELLS],
     sets: &[u64; SET_WORDS],
-    words: &[u64; States::WORDS],
+    set: States,
     all: bool,
     at: usize,
-    size: usize,
+    end: usize,
     left: usize,
 ) -> bool
-    requires { ⌜ (at ≤ nodeMost) × (size < 65536) ⌝ }
-    ensures { λ r. ⌜ r ≡ joined all (holdsAt (now (nodes .entry)) (knownBy (now (sets .entry)) (ofWords (now (words .entry)))) left at) (holdsAt (now (nodes .entry)) (knownBy (now (sets .entry)) (ofWords (now (words .entry)))) left (at + size)) ⌝ }
+    ensures { λ r. ⌜ r ≡ partsHold (now (nodes .entry)) (knownBy (now (sets .entry)) set) left all (end - at) at ⌝ }
 {
     if left == 0 {
         return false;
     }
-    let first = match node_at(nodes, at) {
-        Node::Atom(positive, k) => atom_holds(sets, words, positive, k),
-        Node::Join(both, skip) => parts_hold(nodes, sets, words, both, at + 1, skip, left - 1),
-        _ => false,
-    };
-    if first != all {
-        return first;
-    }
-    match node_at(nodes, at + size) {
-        Node::Atom(positive, k) => atom_holds(sets, words, positive, k),
-        Node::Join(both, skip) => {
-            parts_hold(nodes, sets, words, both, at + size + 1, skip, left - 1)
+    let mut i = at;
+    while i < end {
+        match node_at(nodes, i) {
+            Node::Atom(positive, k) => {
+                if atom_holds(sets, set, positive, k) != all {
+                    return !all;
+                }
+                i = i + 1;
+            }
+            Node::Join(both, size) => {
+                i = i + 1;
+                if both != all {
+                    let stop = least(i + size, end);
+                    if parts_hold(nodes, sets, set, both, i, stop, left - 1) != all {
+                        return !all;
+                    }
+                    i = i + size;
+                }
+            }
+            _ => {
+                return false;
+            }
         }
-        _ => false,
     }
+    all
 }
 
 // Whether the formula at node `at` holds where the states of a set are possible.
 fn formula_holds(nodes: &[u16; NODE_CELLS], sets: &[u64; SET_WORDS], set: States, at: usize) -> bool
-    ensures { λ r. ⌜ r ≡ holdsAt (now (nodes .entry)) (knownBy (now (sets .entry)) set) deepest at ⌝ }
+    ensures { λ r. ⌜ r ≡ holdsAt (now (nodes .entry)) (knownBy (now (sets .entry)) set) at ⌝ }
 {
-    let words = set.words();
     match node_at(nodes, at) {
-        Node::Atom(positive, k) => atom_holds(sets, &words, positive, k),
-        Node::Join(all, size) => parts_hold(nodes, sets, &words, all, at + 1, size, DEPTH - 1),
+        Node::Atom(positive, k) => atom_holds(sets, set, positive, k),
+        Node::Join(all, size) => parts_hold(
+            nodes,
+            sets,
+            set,
+            all,
+            at + 1,
+            at + 1 + size,
+            DEPTH - 1,
+        ),
         _ => false,
     }
 }
@@ -107,11 +126,8 @@ pub fn settle(nodes: &[u16; NODE_CELLS], sets: &[u64; SET_WORDS], set: States, a
             Node::Jump(skip) => {
                 i = i + 1 + skip;
             }
-            Node::End(count) => {
-                return Place::End(formula_holds(nodes, sets, set, GOAL));
-            }
             _ => {
-                return Place::End(false);
+                return Place::End(formula_holds(nodes, sets, set, GOAL));
             }
         }
     }

@@ -105,52 +105,60 @@ module _ (bytes : List ℕ) (n left : ℕ) (from : Filled) where
         let a = fills (h .inner) q (h .stands) in
         rw (h .is) (a .0, a .1 ∙ ap (write nodes (3 * from .node)) (sym (spread-one cells _)), a .2 ∙ ap (write sets (4 * from .set)) (sym (spread-one words _)))
 
-  -- Of two parts the first is written behind the node, and the second behind the first.
+  -- Of two parts the first is written behind where the node goes, the second behind the first, and then the node.
   module _ (first second : Epistemic) (p middle q : ℕ) (first-read : epistemic n (left - 1) bytes p ≡ got first middle) (second-read : epistemic n (left - 1) bytes middle ≡ got second q) where
     abbrev pub firstBehind : Filled
     firstBehind = behindFormula (partsFrom from p) first middle
 
-    module _ {x : Filled} (is : x ≡ firstBehind) where
-      pub second-read-at : epistemic n (left - 1) bytes (x .at) ≡ got second q
-      second-read-at = ap (λ (v : Filled). epistemic n (left - 1) bytes (v .at)) is ∙ second-read
+    abbrev secondBehind : Filled
+    secondBehind = behindFormula firstBehind second q
 
-      -- The node tells the size of the first part.
-      pub size-is : x .node - (from .node + 1) ≡ formulaSize first
-      size-is = omega (arith, ap (λ (v : Filled). v .node) is)
+    second-read-at : {x : Filled} → x ≡ firstBehind → epistemic n (left - 1) bytes (x .at) ≡ got second q
+    second-read-at is = ap (λ (v : Filled). epistemic n (left - 1) bytes (v .at)) is ∙ second-read
 
-    laid-pair : (node : Node) (nodes nodes₁ nodes₂ sets sets₁ : List ℕ) {nodes₃ sets₂ : List ℕ} {x y : Filled}
+    -- What the second part writes, from where the first ends.
+    pub second-written : (nodes₁ nodes₂ sets₁ sets₂ : List ℕ) {x y : Filled} → x ≡ firstBehind → FormulaFills bytes n (left - 1) x nodes₁ nodes₂ sets₁ sets₂ y
+        → FormulaWritten firstBehind second q nodes₁ nodes₂ sets₁ sets₂ y
+    second-written nodes₁ nodes₂ sets₁ sets₂ {y = y} is later =
+        subst (λ (v : Filled). FormulaFills bytes n (left - 1) v nodes₁ nodes₂ sets₁ sets₂ y) is later second q second-read
+
+    -- The node tells the size of both parts.
+    size-is : {y : Filled} → y ≡ secondBehind → y .node - (from .node + 1) ≡ formulaSize first + formulaSize second
+    size-is is = omega (arith, ap (λ (v : Filled). v .node) is)
+
+    laid-pair : (node : Node) (nodes nodes₁ nodes₂ sets sets₁ sets₂ : List ℕ) {nodes₃ : List ℕ} {x y : Filled}
         → FormulaFills bytes n (left - 1) (partsFrom from p) nodes nodes₁ sets sets₁ x
-        → nodes₂ ≡ write nodes₁ (3 * from .node) (cells node)
-        → FormulaFills bytes n (left - 1) x nodes₂ nodes₃ sets₁ sets₂ y
+        → FormulaFills bytes n (left - 1) x nodes₁ nodes₂ sets₁ sets₂ y
+        → nodes₃ ≡ write nodes₂ (3 * from .node) (cells node)
         → (y ≡ record { at = q; node = from .node + suc (formulaSize first + formulaSize second); set = from .set + (atoms first + atoms second); acts = from .acts })
         × (nodes₃ ≡ write nodes (3 * from .node) (flatMap cells (node ∷ (formulaNodes first (from .set) ++ formulaNodes second (from .set + atoms first)))))
         × (sets₂ ≡ write sets (4 * from .set) (flatMap words (atomSets first ++ atomSets second)))
-    laid-pair node nodes nodes₁ nodes₂ sets sets₁ {nodes₃ = nodes₃} {sets₂ = sets₂} {y = y} earlier put later =
+    laid-pair node nodes nodes₁ nodes₂ sets sets₁ sets₂ {nodes₃ = nodes₃} earlier later put =
         let fs = formulaNodes first (from .set) in
-        let a : FormulaWritten (partsFrom from p) first middle nodes nodes₁ sets sets₁ _ = earlier first middle first-read in
-        let b : FormulaWritten firstBehind second q nodes₂ nodes₃ sets₁ sets₂ y =
-        subst (λ (v : Filled). FormulaFills bytes n (left - 1) v nodes₂ nodes₃ sets₁ sets₂ y) (a .0) later second q second-read in
+        let gs = formulaNodes second (from .set + atoms first) in
+        let a = earlier first middle first-read in
+        let b = second-written nodes₁ nodes₂ sets₁ sets₂ (a .0) later in
         let i : from .node + 1 + formulaSize first + formulaSize second ≡ from .node + suc (formulaSize first + formulaSize second) = omega arith in
         let j : from .set + atoms first + atoms second ≡ from .set + (atoms first + atoms second) = omega arith in (
           b .0 ∙ rw (i, j),
-          spread-on 3 cells cells-three nodes nodes₂ nodes₃ (from .node) (from .node + 1 + formulaSize first) (node ∷ fs) (formulaNodes second (from .set + atoms first))
-              (node-before nodes nodes₁ nodes₂ (from .node) node fs (a .1) put) (b .1) (omega (arith, formula-length first (from .set))),
+          node-before nodes nodes₂ nodes₃ (from .node) node (fs ++ gs)
+              (spread-on 3 cells cells-three nodes nodes₁ nodes₂ (from .node + 1) (from .node + 1 + formulaSize first) fs gs (a .1) (b .1) (ap (λ (v : ℕ). from .node + 1 + v) (formula-length first (from .set)))) put,
           spread-on 4 words words-four sets sets₁ sets₂ (from .set) (from .set + atoms first) (atomSets first) (atomSets second) (a .2) (b .2)
               (ap (λ (v : ℕ). from .set + v) (atom-sets-length first)),
         )
 
-    pub laid-parts : (all : Bool) (nodes nodes₁ nodes₂ sets sets₁ : List ℕ) {nodes₃ sets₂ : List ℕ} {x y : Filled}
+    pub laid-parts : (all : Bool) (nodes nodes₁ nodes₂ sets sets₁ sets₂ : List ℕ) {nodes₃ : List ℕ} {x y : Filled}
         → FormulaFills bytes n (left - 1) (partsFrom from p) nodes nodes₁ sets sets₁ x
-        → nodes₂ ≡ write nodes₁ (3 * from .node) (cells (Node.Join all (x .node - (from .node + 1))))
-        → FormulaFills bytes n (left - 1) x nodes₂ nodes₃ sets₁ sets₂ y
+        → FormulaFills bytes n (left - 1) x nodes₁ nodes₂ sets₁ sets₂ y
+        → nodes₃ ≡ write nodes₂ (3 * from .node) (cells (Node.Join all (y .node - (from .node + 1))))
         → FormulaWritten from (pair all first second) q nodes nodes₃ sets sets₂ y
     unfolding pair atoms atomSets formulaSize formulaNodes
-    laid-parts true nodes nodes₁ nodes₂ sets sets₁ earlier put later =
-        laid-pair (Node.Join true (formulaSize first)) nodes nodes₁ nodes₂ sets sets₁ earlier
-        (put ∙ ap (λ (v : ℕ). write nodes₁ (3 * from .node) (cells (Node.Join true v))) (size-is (earlier first middle first-read .0))) later
-    laid-parts false nodes nodes₁ nodes₂ sets sets₁ earlier put later =
-        laid-pair (Node.Join false (formulaSize first)) nodes nodes₁ nodes₂ sets sets₁ earlier
-        (put ∙ ap (λ (v : ℕ). write nodes₁ (3 * from .node) (cells (Node.Join false v))) (size-is (earlier first middle first-read .0))) later
+    laid-parts true nodes nodes₁ nodes₂ sets sets₁ sets₂ earlier later put =
+        laid-pair (Node.Join true (formulaSize first + formulaSize second)) nodes nodes₁ nodes₂ sets sets₁ sets₂ earlier later
+        (put ∙ ap (λ (v : ℕ). write nodes₂ (3 * from .node) (cells (Node.Join true v))) (size-is (second-written nodes₁ nodes₂ sets₁ sets₂ (earlier first middle first-read .0) later .0)))
+    laid-parts false nodes nodes₁ nodes₂ sets sets₁ sets₂ earlier later put =
+        laid-pair (Node.Join false (formulaSize first + formulaSize second)) nodes nodes₁ nodes₂ sets sets₁ sets₂ earlier later
+        (put ∙ ap (λ (v : ℕ). write nodes₂ (3 * from .node) (cells (Node.Join false v))) (size-is (second-written nodes₁ nodes₂ sets₁ sets₂ (earlier first middle first-read .0) later .0)))
 
   -- There is room for a node and for a set; for two parts.
   module _ (room : FormulaRoom bytes n left from) where
@@ -188,12 +196,6 @@ module _ (bytes : List ℕ) (n left : ℕ) (from : Filled) where
         }
 
     module _ {x : Filled} (is : x ≡ behindFormula (partsFrom from p) (room .first) (room .middle)) where
-      pub size-inside : from .node + 1 ≤ x .node
-      size-inside = omega (arith, ap (λ (v : Filled). v .node) is)
-
-      pub size-small : x .node - (from .node + 1) < 65536
-      size-small = omega (arith, room .nodes-room, ap (λ (v : Filled). v .node) is)
-
       pub second-room : FormulaRoom bytes n (left - 1) x
       second-room =
           record {
@@ -204,3 +206,10 @@ module _ (bytes : List ℕ) (n left : ℕ) (from : Filled) where
             nodes-room = omega (arith, room .nodes-room, ap (λ (v : Filled). v .node) is);
             sets-room = omega (arith, room .sets-room, ap (λ (v : Filled). v .set) is);
           }
+
+    module _ {y : Filled} (is : y ≡ behindFormula (behindFormula (partsFrom from p) (room .first) (room .middle)) (room .second) (room .next)) where
+      pub size-inside : from .node + 1 ≤ y .node
+      size-inside = omega (arith, ap (λ (v : Filled). v .node) is)
+
+      pub size-small : y .node - (from .node + 1) < 65536
+      size-small = omega (arith, room .nodes-room, ap (λ (v : Filled). v .node) is)

@@ -113,10 +113,10 @@ unfolding formulaNodes formulaSize atoms Small
 formula-small (known f) k nodes sets = each-more Small (Node.Atom true k) [] (omega arith) (each-none Small)
 formula-small (not-known f) k nodes sets = each-more Small (Node.Atom false k) [] (omega arith) (each-none Small)
 formula-small (all-of f g) k nodes sets =
-    each-more Small (Node.Join true (formulaSize f)) _ (omega arith)
+    each-more Small (Node.Join true (formulaSize f + formulaSize g)) _ (omega arith)
     (each-append Small (formulaNodes f k) (formulaNodes g (k + atoms f)) (formula-small f k (omega arith) (omega arith)) (formula-small g (k + atoms f) (omega arith) (omega arith)))
 formula-small (any-of f g) k nodes sets =
-    each-more Small (Node.Join false (formulaSize f)) _ (omega arith)
+    each-more Small (Node.Join false (formulaSize f + formulaSize g)) _ (omega arith)
     (each-append Small (formulaNodes f k) (formulaNodes g (k + atoms f)) (formula-small f k (omega arith) (omega arith)) (formula-small g (k + atoms f) (omega arith) (omega arith)))
 
 -- Action numbers that are below one number are below a greater one.

@@ -63,13 +63,13 @@ formulaSize (not-known f) = 1
 formulaSize (all-of f g) = suc (formulaSize f + formulaSize g)
 formulaSize (any-of f g) = suc (formulaSize f + formulaSize g)
 
--- They stand in reading order, the sets of the atoms from set k on. "And" and "or" tell how many nodes their first part has, behind which the second stands.
+-- They stand in reading order, the sets of the atoms from set k on. "And" and "or" tell how many nodes stand behind them, those of both parts.
 unfoldable pub formulaNodes : Epistemic → (k : ℕ) → List Node
 unfolding atoms formulaSize
 formulaNodes (known f) k = Node.Atom true k ∷ []
 formulaNodes (not-known f) k = Node.Atom false k ∷ []
-formulaNodes (all-of f g) k = Node.Join true (formulaSize f) ∷ (formulaNodes f k ++ formulaNodes g (k + atoms f))
-formulaNodes (any-of f g) k = Node.Join false (formulaSize f) ∷ (formulaNodes f k ++ formulaNodes g (k + atoms f))
+formulaNodes (all-of f g) k = Node.Join true (formulaSize f + formulaSize g) ∷ (formulaNodes f k ++ formulaNodes g (k + atoms f))
+formulaNodes (any-of f g) k = Node.Join false (formulaSize f + formulaSize g) ∷ (formulaNodes f k ++ formulaNodes g (k + atoms f))
 
 -- The nodes of a program, the atoms of its conditions, and their sets, in reading order.
 unfoldable pub size : Program → ℕ
@@ -188,6 +188,6 @@ branch-nodes = refl
 
 -- A condition with both connectives, in reading order.
 condition-nodes : formulaNodes (all-of (any-of (not-known (fact 1)) (known (fact 2))) (known (fact 0))) 4
-    ≡ Node.Join true 3 ∷ Node.Join false 1 ∷ Node.Atom false 4 ∷ Node.Atom true 5 ∷ Node.Atom true 6 ∷ []
+    ≡ Node.Join true 4 ∷ Node.Join false 2 ∷ Node.Atom false 4 ∷ Node.Atom true 5 ∷ Node.Atom true 6 ∷ []
 unfolding formulaNodes
 condition-nodes = refl

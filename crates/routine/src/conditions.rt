@@ -77,8 +77,8 @@ pub(crate) fn fill_formula(
     }
 }
 
-// Writes "and" (`all`) or "or", a formula of at most `left` levels whose parts stand at a position: the node behind the
-// first part, whose size it tells.
+// Writes "and" (`all`) or "or", a formula of at most `left` levels whose parts stand at a position: the parts behind the
+// place of the node, and then the node, which tells how many nodes they have.
 fn fill_parts(
     bytes: &[u8],
     at: usize,
@@ -99,10 +99,11 @@ fn fill_parts(
         acts: from.acts,
     };
     let first = fill_formula(bytes, behind, n, left - 1, nodes, sets);
+    let second = fill_formula(bytes, first, n, left - 1, nodes, sets);
     put_node(
         nodes,
         from.node,
-        Node::Join(all, first.node - (from.node + 1)),
+        Node::Join(all, second.node - (from.node + 1)),
     );
-    fill_formula(bytes, first, n, left - 1, nodes, sets)
+    second
 }

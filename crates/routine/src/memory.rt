@@ -16,8 +16,8 @@ ghost use Rattle.routine.specs.Memory.{write, flag as flagOf, cells, Sma
 // A node. Of a program: an action by its number, and the node's own number among the action nodes in reading order; a
 // branch, whose condition stands behind it, and how many nodes are skipped if that holds and if it doesn't; a jump over so
 // many nodes; the end, and how many action nodes there are. Of an epistemic formula, in reading order: two parts joined by
-// "and" (true) or "or" (false), with the size of the first, which stands behind the node, and behind it the second; an atom
-// "known" (true) or "not known" (false), with the number of its set.
+// "and" (true) or "or" (false), with the number of the nodes of both, which stand behind the node, one part behind the
+// other; an atom "known" (true) or "not known" (false), with the number of its set.
 pub enum Node {
     Act(usize, usize),
     Branch(usize, usize),

@@ -180,6 +180,29 @@ pub enum Place {
     End { goal: bool },
 }
 
+/// The proved functions tell a place in one number. (What is timed hands on this one: a
+/// struct goes through memory, which costs some 4 ns, as long as a short settling.)
+impl Place {
+    #[inline]
+    pub fn number(self) -> u64 {
+        match self {
+            Place::Act { node, action } => 2 + 65536 * node as u64 + action as u64,
+            Place::End { goal } => goal.into(),
+        }
+    }
+
+    #[inline]
+    pub fn of_number(number: u64) -> Place {
+        match number.checked_sub(2) {
+            None => Place::End { goal: number == 1 },
+            Some(place) => Place::Act {
+                node: (place / 65536) as usize,
+                action: (place % 65536) as usize,
+            },
+        }
+    }
+}
+
 /// The verdict on a sheet that is not refused.
 #[derive(Clone, Copy, Debug, PartialEq, Eq)]
 pub enum Verdict {
@@ -250,22 +273,18 @@ pub fn prepare(bytes: &[u8], tables: &mut Tables, start: &mut Words) -> u8 {
 }
 
 /// Replaces the possible states by those possible after the action and its reply.
+#[inline]
 pub fn step(tables: &Tables, set: &mut Words, action: usize, reply: usize) {
     // SAFETY: as above.
     unsafe { recovery_step(&tables.heads, &tables.sets, set, action, reply) }
 }
 
 /// Where the program settles from a node on, the states of the set being possible.
+#[inline]
 pub fn settle(tables: &Tables, set: &Words, at: usize) -> Place {
     // SAFETY: as above.
     let number = unsafe { recovery_settle(&tables.nodes, &tables.sets, set, at) };
-    match number.checked_sub(2) {
-        None => Place::End { goal: number == 1 },
-        Some(place) => Place::Act {
-            node: (place / 65536) as usize,
-            action: (place % 65536) as usize,
-        },
-    }
+    Place::of_number(number)
 }
 
 /// The verdict, or the number of the refusal. The memory of an invalid sheet

@@ -107,7 +107,7 @@ impl Filling<'_> {
     }
 
     fn pair(&mut self, and: bool, left: &Epistemic, right: &Epistemic) {
-        self.node([JOIN, size_of(left) as u16, and.into()]);
+        self.node([JOIN, (size_of(left) + size_of(right)) as u16, and.into()]);
         self.formula(left);
         self.formula(right);
     }
@@ -205,9 +205,15 @@ fn advance(tables: &Tables, set: &mut Words, action: usize, reply: usize) {
 }
 
 /// Where the program settles from a node on, over the tables of a sheet.
-#[inline(never)]
+#[inline]
 pub fn settle(tables: &Tables, set: &Words, at: usize) -> Place {
-    settled(tables, set, at)
+    Place::of_number(settled_number(tables, set, at))
+}
+
+/// The call that is timed beside the proved one gives a number, as that does.
+#[inline(never)]
+fn settled_number(tables: &Tables, set: &Words, at: usize) -> u64 {
+    settled(tables, set, at).number()
 }
 
 fn settled(tables: &Tables, set: &Words, at: usize) -> Place {
@@ -242,13 +248,32 @@ fn node_at(tables: &Tables, node: usize) -> [u16; 3] {
 fn formula_holds(tables: &Tables, set: &Words, at: usize) -> bool {
     let [kind, operand, flag] = node_at(tables, at);
     let first = at + 1;
-    let second = first + usize::from(operand);
-    match (kind, flag) {
-        (ATOM, 1) => is_known(tables, set, operand.into()),
-        (ATOM, _) => !is_known(tables, set, operand.into()),
-        (_, 1) => formula_holds(tables, set, first) && formula_holds(tables, set, second),
-        (_, _) => formula_holds(tables, set, first) || formula_holds(tables, set, second),
+    match kind {
+        ATOM => is_known(tables, set, operand.into()) == (flag == 1),
+        _ => parts_hold(tables, set, flag, first, first + usize::from(operand)),
     }
+}
+
+/// Whether all parts (`all` is 1), or one of them, hold that stand in the nodes from
+/// `at` to `end`. A part that is joined in the same way is its parts.
+fn parts_hold(tables: &Tables, set: &Words, all: u16, mut at: usize, end: usize) -> bool {
+    while at < end {
+        let [kind, operand, flag] = node_at(tables, at);
+        at += 1;
+        let holds = match kind {
+            ATOM => is_known(tables, set, operand.into()) == (flag == 1),
+            _ if flag == all => continue,
+            _ => {
+                let first = at;
+                at += usize::from(operand);
+                parts_hold(tables, set, flag, first, at)
+            }
+        };
+        if holds != (all == 1) {
+            return holds;
+        }
+    }
+    all == 1
 }
 
 /// Whether every state of a set is in the set of a number.

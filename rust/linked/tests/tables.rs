@@ -340,28 +340,78 @@ mod machine {
         (0..256).all(|state| !member(set, state) || member(&told, state))
     }
 
-    /// Whether the formula at a node holds; how many "and" and "or" were met, by
-    /// whether their first part held, and how often no level was left.
-    fn holds_at(tables: &Tables, set: &Words, left: usize, at: usize, met: &mut Met) -> bool {
+    /// Whether the formula at a node holds.
+    fn holds_at(tables: &Tables, set: &Words, at: usize, met: &mut Met) -> bool {
+        match node_at(tables, at) {
+            [3, size, flag] => parts_hold(tables, set, LEVELS - 1, flag == 1, size, at + 1, met),
+            [4, k, flag] => known_by(tables, set, k) == (flag == 1),
+            _ => false,
+        }
+    }
+
+    /// Whether all parts, or one of them, hold that stand in so many nodes from a
+    /// node on. Each part is evaluated, also one that no longer decides.
+    fn parts_hold(
+        tables: &Tables,
+        set: &Words,
+        left: usize,
+        all: bool,
+        size: usize,
+        from: usize,
+        met: &mut Met,
+    ) -> bool {
         if left == 0 {
             met.too_deep += 1;
             return false;
         }
-        match node_at(tables, at) {
-            [3, size, 1] => {
-                let first = holds_at(tables, set, left - 1, at + 1, met);
-                met.all[usize::from(first)] += 1;
-                first && holds_at(tables, set, left - 1, at + 1 + size, met)
+        let end = from + size;
+        let mut parts = Vec::new();
+        let mut skip = 0;
+        for node in from..end {
+            if skip > 0 {
+                skip -= 1;
+                continue;
             }
-            [3, size, _] => {
-                let first = holds_at(tables, set, left - 1, at + 1, met);
-                met.any[usize::from(first)] += 1;
-                first || holds_at(tables, set, left - 1, at + 1 + size, met)
+            match node_at(tables, node) {
+                [3, _, flag] if (flag == 1) == all => met.alike += 1,
+                [3, inner, _] => {
+                    skip = inner;
+                    let inside = inner.min(end - node - 1);
+                    met.cut += usize::from(inside < inner);
+                    parts.push(parts_hold(
+                        tables,
+                        set,
+                        left - 1,
+                        !all,
+                        inside,
+                        node + 1,
+                        met,
+                    ));
+                }
+                [4, k, flag] => {
+                    let holds = known_by(tables, set, k) == (flag == 1);
+                    if left == 1 {
+                        met.deepest[usize::from(holds)] += 1;
+                    }
+                    parts.push(holds);
+                }
+                _ => {
+                    met.no_part += 1;
+                    parts.push(false);
+                    break;
+                }
             }
-            [4, k, 1] => known_by(tables, set, k),
-            [4, k, _] => !known_by(tables, set, k),
-            _ => false,
         }
+        // Where a node is no part nothing holds, unless an earlier part decides.
+        let parts = parts.into_iter();
+        let holds = if all {
+            parts.fold(true, |holds, part| holds && part)
+        } else {
+            parts.fold(false, |holds, part| holds || part)
+        };
+        let counts = if all { &mut met.all } else { &mut met.any };
+        counts[usize::from(holds)] += 1;
+        holds
     }
 
     /// What was met on the way.
@@ -370,10 +420,17 @@ mod machine {
         pub branches: [usize; 2],
         pub all: [usize; 2],
         pub any: [usize; 2],
+        pub alike: usize,
+        pub cut: usize,
+        pub no_part: usize,
+        /// Atoms at the last level, failing and holding; and parts behind it.
+        pub deepest: [usize; 2],
         pub too_deep: usize,
+        /// Nodes of a formula that the program comes to, the goal failing and holding.
+        pub formula_ends: [usize; 2],
     }
 
-    /// The place, and whether it was told by a node of a program.
+    /// The place, and whether it was told by a node, or is behind the last.
     pub fn settled(tables: &Tables, set: &Words, at: usize, met: &mut Met) -> (Place, bool) {
         let mut skip = at;
         for node in 0..NODES {
@@ -391,7 +448,7 @@ mod machine {
                     return (place, true);
                 }
                 1 => {
-                    let holds = holds_at(tables, set, LEVELS, node + 1, met);
+                    let holds = holds_at(tables, set, node + 1, met);
                     met.branches[usize::from(holds)] += 1;
                     if holds {
                         operand
@@ -400,9 +457,11 @@ mod machine {
                     }
                 }
                 2 => operand,
-                3 | 4 => return (Place::End { goal: false }, false),
                 _ => {
-                    let goal = holds_at(tables, set, LEVELS, GOAL, met);
+                    let goal = holds_at(tables, set, GOAL, met);
+                    if (kind == 3 || kind == 4) && node != at {
+                        met.formula_ends[usize::from(goal)] += 1;
+                    }
                     return (Place::End { goal }, true);
                 }
             };
@@ -448,29 +507,42 @@ fn flag(random: &mut Random) -> u16 {
     }
 }
 
-/// Writes a formula of at most so many levels and gives the node behind it; now
-/// and then the second part doesn't stand where the node says.
+/// Writes an atom and gives the node behind it.
+fn put_atom(random: &mut Random, tables: &mut Tables, at: usize) -> usize {
+    let set = random.below(10_300) as u16;
+    put_node(tables, at, [4, set, flag(random)]);
+    at + 1
+}
+
+/// Writes a formula of at most so many levels, or one with long chains, and gives the
+/// node behind it; now and then its parts don't end where the node says.
 fn put_formula(random: &mut Random, tables: &mut Tables, at: usize, left: usize) -> usize {
-    if random.chance(1, 64) {
-        // One first part in the other, deeper than any formula that is read.
-        for level in 0..20 {
-            put_node(tables, at + level, [3, 0, flag(random)]);
+    if random.chance(1, 32) {
+        // One part in the other, "and" of "or" of "and", around an atom: that decides
+        // up to the depth that is allowed, and nothing holds beyond it.
+        let [size, first] = [random.between(14, 19), random.below(2)];
+        for level in 0..size {
+            let behind = (size - level) as u16;
+            put_node(
+                tables,
+                at + level,
+                [3, behind, ((first + level) % 2) as u16],
+            );
         }
-        return at + 20;
+        return put_atom(random, tables, at + size);
     }
     if left == 1 || random.chance(3, 5) {
-        let set = random.below(10_300) as u16;
-        put_node(tables, at, [4, set, flag(random)]);
-        return at + 1;
+        return put_atom(random, tables, at);
     }
     let second = put_formula(random, tables, at + 1, left - 1);
+    let behind = put_formula(random, tables, second, left - 1);
     let size = if random.chance(1, 64) {
         random.bits() as u16
     } else {
-        (second - (at + 1)) as u16
+        (behind - (at + 1)) as u16
     };
     put_node(tables, at, [3, size, flag(random)]);
-    put_formula(random, tables, second, left - 1)
+    behind
 }
 
 /// Memory with any numbers, in most of which a program goes some way and steps
@@ -545,7 +617,7 @@ fn places_on_any_memory() {
     let mut random = Random::new(28);
     let (mut acts, mut met, mut missed, mut past) = (0, 0, 0, 0);
     let mut on_the_way = machine::Met::default();
-    for _ in 0..400 {
+    for _ in 0..800 {
         let tables = random_tables(&mut random);
         for _ in 0..40 {
             let set = random_set(&mut random);
@@ -567,5 +639,12 @@ fn places_on_any_memory() {
     assert!(counts.iter().all(|&count| count >= 300), "{counts:?}");
     let met = [on_the_way.branches, on_the_way.all, on_the_way.any].concat();
     assert!(met.iter().all(|&count| count >= 1000), "{on_the_way:?}");
-    assert!(on_the_way.too_deep >= 100, "{on_the_way:?}");
+    let rare = [
+        on_the_way.alike,
+        on_the_way.cut,
+        on_the_way.no_part,
+        on_the_way.too_deep,
+    ];
+    let rare = [&rare[..], &on_the_way.deepest, &on_the_way.formula_ends].concat();
+    assert!(rare.iter().all(|&count| count >= 100), "{on_the_way:?}");
 }

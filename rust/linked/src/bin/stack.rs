@@ -324,10 +324,19 @@ fn objectives(depth: u32, leaf: Objective) -> [(&'static str, Objective); 5] {
     ]
 }
 
-/// A formula's "known" or "not known" at this level, on each side of each kind of node.
-fn epistemics(levels: u32, part: &Objective) -> [(&'static str, Epistemic); 3] {
+/// A formula's "known" or "not known" at this level, on each side of each kind of node,
+/// and of both kinds by turns: only a part that is joined the other way is settled by a
+/// call of its own.
+fn epistemics(levels: u32, part: &Objective) -> [(&'static str, Epistemic); 5] {
     let chain = |first: Epistemic, more: fn(Epistemic) -> Epistemic| {
         (1..levels).fold(first, |formula, _| more(formula))
+    };
+    let by_turns = |and: fn(Epistemic) -> Epistemic, or: fn(Epistemic) -> Epistemic| {
+        let first = Epistemic::Known(part.clone());
+        (1..levels).fold(first, |formula, level| match level % 2 {
+            0 => or(formula),
+            _ => and(formula),
+        })
     };
     [
         (
@@ -347,6 +356,21 @@ fn epistemics(levels: u32, part: &Objective) -> [(&'static str, Epistemic); 3] {
             chain(Epistemic::NotKnown(part.clone()), |f| {
                 Epistemic::Known(Objective::True).or(f)
             }),
+        ),
+        (
+            "and, or by turns, to the left",
+            by_turns(
+                |f| f.and(Epistemic::Known(Objective::True)),
+                |f| f.or(Epistemic::Known(Objective::True)),
+            ),
+        ),
+        // What stands before a part doesn't decide.
+        (
+            "and, or by turns, to the right",
+            by_turns(
+                |f| Epistemic::Known(Objective::True).and(f),
+                |f| Epistemic::Known(Objective::False).or(f),
+            ),
         ),
     ]
 }

@@ -8,18 +8,17 @@ use native.Mathlib.Omega.{arith}
 use borrow.Author.Needs.{needs}
 use Rattle.lists.specs.Lists.{if_then_else_}
 use Rattle.states.specs.declared.States.{States}
-use Rattle.format.specs.Format.{deepest}
 use Rattle.routine.specs.declared.memory.Node.{Node}
 use Rattle.routine.specs.Memory.{Small, nodeMost, nodeAt}
 use Rattle.progression.specs.declared.place.Place.{Place}
 use Rattle.progression.specs.Machine.{knownBy, holdsAt, atNode, settled, Inside}
-use Rattle.progression.proofs.MachineLaws.{goesTo, goes-by, goes-branch, goes-past, settled-goes, no-program}
+use Rattle.progression.proofs.MachineLaws.{goesTo, goes-by, goes-branch, goes-past, settled-goes, at-end}
 use Rattle.progression.proofs.place.settle.Statement.{statement}
 use Rattle.progression.proofs.place.settle.Tie as tie
 
 -- Where the program settles from node i on.
 abbrev from : (nodes sets : List ℕ) (set : States) → ℕ → Place
-from nodes sets set = goesTo (nodeAt nodes) (holdsAt nodes (knownBy sets set) deepest)
+from nodes sets set = goesTo (nodeAt nodes) (holdsAt nodes (knownBy sets set))
 
 abbrev Inv-loop : tie.InvT-loop
 Inv-loop nodes sets set at i₀ i = settled nodes sets set at ≡ from nodes sets set i
@@ -99,25 +98,17 @@ loop-again-3 : tie.Need-loop-again-3 Inv-loop μ-loop
 unfolding atNode
 loop-again-3 c = c .before .before .before .before .before .loop .inv ∙ goes-by _ _ (c .before .before .before .before .before .loop .i) (omega arith) (Node.Jump _) (sym (c .before .skip .given .1) ∙ c .before .before .before .node-at .ensures .0)
 
-enum-known-count : tie.Need-enum-known-count Inv-loop μ-loop
-enum-known-count c = search needs
-
 formula-holds-requires-2 : tie.Need-formula-holds-requires-2 Inv-loop μ-loop
 formula-holds-requires-2 c κs = search needs
 
 returns-2 : tie.Need-returns-2 Inv-loop μ-loop
-unfolding Inside atNode
+unfolding Inside
 returns-2 c =
-    (ap Place.End (c .formula-holds2 .ensures) ∙ sym (c .before .before .before .before .before .before .loop .inv ∙ goes-by _ _ (c .before .before .before .before .before .before .loop .i) (omega arith) (Node.End _) (sym (c .before .before .count .given .1) ∙ c .before .before .before .before .node-at .ensures .0)), tt)
+    (ap Place.End (c .formula-holds2 .ensures) ∙ sym (c .before .before .before .before .loop .inv ∙ goes-by _ _ (c .before .before .before .before .loop .i) (omega arith) _ (c .before .before .node-at .ensures .0) ∙ at-end _ _ (c .before .before .before .before .loop .i) _ (c .before .match .keys4)), tt)
 
 returns-3 : tie.Need-returns-3 Inv-loop μ-loop
 unfolding Inside
-returns-3 c =
-    (sym (c .before .before .before .loop .inv ∙ goes-by _ _ (c .before .before .before .loop .i) (omega arith) _ (c .before .node-at .ensures .0) ∙ no-program _ _ (c .before .before .before .loop .i) _ (c .match .keys5)), tt)
-
-returns-4 : tie.Need-returns-4 Inv-loop μ-loop
-unfolding Inside
-returns-4 c = (sym (c .before .loop .inv ∙ goes-past _ _ (c .before .loop .i) (omega arith)), tt)
+returns-3 c = (sym (c .before .loop .inv ∙ goes-past _ _ (c .before .loop .i) (omega arith)), tt)
 
 pub settle-spec : {M : Type 1} → statement M
-settle-spec = tie.close (tie.spec Inv-loop μ-loop loop-holds node-at-requires enum-known-a returns enum-known-met add-formula-holds formula-holds-requires add-i add-i-2 loop-less loop-again add-i-3 add-i-4 loop-less-2 loop-again-2 enum-known-skip add-i-5 add-i-6 loop-less-3 loop-again-3 enum-known-count formula-holds-requires-2 returns-2 returns-3 returns-4)
+settle-spec = tie.close (tie.spec Inv-loop μ-loop loop-holds node-at-requires enum-known-a returns enum-known-met add-formula-holds formula-holds-requires add-i add-i-2 loop-less loop-again add-i-3 add-i-4 loop-less-2 loop-again-2 enum-known-skip add-i-5 add-i-6 loop-less-3 loop-again-3 formula-holds-requires-2 returns-2 returns-3)

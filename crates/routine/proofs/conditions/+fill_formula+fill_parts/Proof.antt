@@ -11,7 +11,7 @@ use Rattle.format.specs.Format.{got, epistemic}
 use Rattle.reader.specs.Answers.{epistemicNodeRead}
 use Rattle.routine.specs.Memory.{Small}
 use Rattle.routine.specs.Filling.{pair, behindFormula}
-use Rattle.routine.proofs.ConditionLaws.{AtomAt, PairAt, partsFrom, formula-parts, node-room, parts-room, join-room, first-room, second-room, size-inside, size-small, laid-known, laid-not-known, laid-parts}
+use Rattle.routine.proofs.ConditionLaws.{AtomAt, PairAt, partsFrom, formula-parts, node-room, parts-room, join-room, first-room, second-room, size-inside, size-small, laid-known, laid-not-known, second-written, laid-parts}
 use Rattle.routine.proofs.conditions.fill_formula.Reads as whole
 use Rattle.routine.proofs.conditions.fill_formula.Kinds as whole-kinds
 use Rattle.routine.proofs.conditions.+fill_formula+fill_parts.Lts-fill_formula as whole-lts
@@ -150,6 +150,14 @@ module _ (t : ℕ) where
       c .fill-formula .result ≡ behindFormula (partsFrom (d .args .from) (d .args .at)) (d .pre .1 .1 .first) (d .pre .1 .1 .middle)
   first-is c = let room = c .before .before .before .before .before .pre .1 .1 in c .fill-formula .ensures (room .first) (room .middle) (room .first-read) .0
 
+  -- The second part is written behind it.
+  second-is : (c : parts-lts.After-fill-formula2 (parts-calls t) (parts-given t) parts.Post) → let d = c .before .before .before .before .before .before .before .before in
+      c .fill-formula2 .result ≡ behindFormula (behindFormula (partsFrom (d .args .from) (d .args .at)) (d .pre .1 .1 .first) (d .pre .1 .1 .middle)) (d .pre .1 .1 .second) (d .pre .1 .1 .next)
+  second-is c =
+      let d = c .before .before .before .before .before .before .before .before in
+      let room = d .pre .1 .1 in
+      second-written _ _ (d .args .left) (d .args .from) (room .first) (room .second) (d .args .at) (room .middle) (room .next) (room .first-read) (room .second-read) _ _ _ _ (first-is (c .before .before .before)) (c .fill-formula2 .ensures) .0
+
   parts-add-fill-formula : parts-lts.Need-add-fill-formula (parts-calls t) (parts-given t) parts.Post
   parts-add-fill-formula c = omega (arith, join-room _ _ _ _ (c .before .before .pre .1 .1))
 
@@ -159,27 +167,27 @@ module _ (t : ℕ) where
   parts-fill-formula-requires : parts-lts.Need-fill-formula-requires (parts-calls t) (parts-given t) parts.Post
   parts-fill-formula-requires c κs = (omega (arith, c .before .before .before .before .pre .0, c .before .before .before .before .pre .1 .1 .some), (c .before .before .before .before .pre .1 .0, first-room _ _ _ _ (c .before .before .before .before .pre .1 .1)))
 
-  parts-add-t11 : parts-lts.Need-add-t11 (parts-calls t) (parts-given t) parts.Post
-  parts-add-t11 c = omega (arith, join-room _ _ _ _ (c .before .before .before .before .before .before .before .pre .1 .1))
+  parts-sub-fill-formula-2 : parts-lts.Need-sub-fill-formula-2 (parts-calls t) (parts-given t) parts.Post
+  parts-sub-fill-formula-2 c = c .before .before .before .before .before .pre .1 .1 .some
 
-  parts-sub-t16 : parts-lts.Need-sub-t16 (parts-calls t) (parts-given t) parts.Post
-  parts-sub-t16 c = size-inside _ _ _ _ (c .before .before .before .before .before .before .before .before .pre .1 .1) (first-is (c .before .before .before))
+  parts-fill-formula-requires-2 : parts-lts.Need-fill-formula-requires-2 (parts-calls t) (parts-given t) parts.Post
+  parts-fill-formula-requires-2 c κs = (omega (arith, c .before .before .before .before .before .before .before .pre .0, c .before .before .before .before .before .before .before .pre .1 .1 .some), (c .before .before .before .before .before .before .before .pre .1 .0, second-room _ _ _ _ (c .before .before .before .before .before .before .before .pre .1 .1) (first-is (c .before .before))))
+
+  parts-add-t12 : parts-lts.Need-add-t12 (parts-calls t) (parts-given t) parts.Post
+  parts-add-t12 c = omega (arith, join-room _ _ _ _ (c .before .before .before .before .before .before .before .before .before .before .pre .1 .1))
+
+  parts-sub-t19 : parts-lts.Need-sub-t19 (parts-calls t) (parts-given t) parts.Post
+  parts-sub-t19 c = size-inside _ _ _ _ (c .before .before .before .before .before .before .before .before .before .before .before .pre .1 .1) (second-is (c .before .before .before))
 
   parts-put-node-requires : parts-lts.Need-put-node-requires (parts-calls t) (parts-given t) parts.Post
   unfolding Small
-  parts-put-node-requires c κs = (omega (arith, join-room _ _ _ _ (c .before .before .before .before .before .before .before .before .pre .1 .1)), size-small _ _ _ _ (c .before .before .before .before .before .before .before .before .pre .1 .1) (first-is (c .before .before .before)))
-
-  parts-sub-fill-formula-2 : parts-lts.Need-sub-fill-formula-2 (parts-calls t) (parts-given t) parts.Post
-  parts-sub-fill-formula-2 c = c .before .before .before .before .before .before .before .before .before .pre .1 .1 .some
-
-  parts-fill-formula-requires-2 : parts-lts.Need-fill-formula-requires-2 (parts-calls t) (parts-given t) parts.Post
-  parts-fill-formula-requires-2 c κs = (omega (arith, c .before .before .before .before .before .before .before .before .before .before .before .pre .0, c .before .before .before .before .before .before .before .before .before .before .before .pre .1 .1 .some), (c .before .before .before .before .before .before .before .before .before .before .before .pre .1 .0, second-room _ _ _ _ (c .before .before .before .before .before .before .before .before .before .before .before .pre .1 .1) (first-is (c .before .before .before .before .before .before))))
+  parts-put-node-requires c κs = (omega (arith, join-room _ _ _ _ (c .before .before .before .before .before .before .before .before .before .before .before .pre .1 .1)), size-small _ _ _ _ (c .before .before .before .before .before .before .before .before .before .before .before .pre .1 .1) (second-is (c .before .before .before)))
 
   parts-returns : parts-lts.Need-returns (parts-calls t) (parts-given t) parts.Post
   parts-returns c f g m q e₁ e₂ =
-      laid-parts _ _ (c .before .before .before .before .before .before .before .before .before .before .before .before .args .left) (c .before .before .before .before .before .before .before .before .before .before .before .before .args .from) f g (c .before .before .before .before .before .before .before .before .before .before .before .before .args .at) m q e₁ e₂ (c .before .before .before .before .before .before .before .before .before .before .before .before .args .all) _ _ _ _ _ (c .before .before .before .before .before .before .before .fill-formula .ensures) (c .before .before .before .put-node .ensures) (c .fill-formula2 .ensures)
+      laid-parts _ _ (c .before .before .before .before .before .before .before .before .before .before .before .before .args .left) (c .before .before .before .before .before .before .before .before .before .before .before .before .args .from) f g (c .before .before .before .before .before .before .before .before .before .before .before .before .args .at) m q e₁ e₂ (c .before .before .before .before .before .before .before .before .before .before .before .before .args .all) _ _ _ _ _ _ (c .before .before .before .before .before .before .before .fill-formula .ensures) (c .before .before .before .before .fill-formula2 .ensures) (c .put-node .ensures)
 
 pub +fill-formula+fill-parts-spec : {M : Type 1} → statement M
 +fill-formula+fill-parts-spec = close μ-whole μ-parts
     (λ t. whole-lts.spec (whole-calls t) (whole-given t) whole.Post (whole-epistemic-node-requires t) (whole-enum-known-r t) (whole-enum-known-p t) (whole-fill-atom-requires t) (whole-enum-known-p-2 t) (whole-fill-atom-requires-2 t) (whole-enum-known-p-3 t) (whole-fill-parts-requires t) (whole-enum-known-p-4 t) (whole-fill-parts-requires-2 t) (whole-returns t) (whole-returns-2 t) (whole-returns-3 t) (whole-returns-4 t) (whole-returns-5 t))
-    λ t. parts-lts.spec (parts-calls t) (parts-given t) parts.Post (parts-add-fill-formula t) (parts-sub-fill-formula t) (parts-fill-formula-requires t) (parts-add-t11 t) (parts-sub-t16 t) (parts-put-node-requires t) (parts-sub-fill-formula-2 t) (parts-fill-formula-requires-2 t) (parts-returns t)
+    λ t. parts-lts.spec (parts-calls t) (parts-given t) parts.Post (parts-add-fill-formula t) (parts-sub-fill-formula t) (parts-fill-formula-requires t) (parts-sub-fill-formula-2 t) (parts-fill-formula-requires-2 t) (parts-add-t12 t) (parts-sub-t19 t) (parts-put-node-requires t) (parts-returns t)

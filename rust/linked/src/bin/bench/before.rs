@@ -41,21 +41,17 @@ impl Before {
         Some(tables)
     }
 
+    #[inline]
     pub fn step(&self, set: &mut Words, action: usize, reply: usize) {
         // SAFETY: as above.
         unsafe { before_step(&self.heads, &self.sets, set, action, reply) }
     }
 
+    #[inline]
     pub fn settle(&self, set: &Words, at: usize) -> Place {
         // SAFETY: as above.
         let number = unsafe { before_settle(&self.nodes, &self.sets, set, at) };
-        match number.checked_sub(2) {
-            None => Place::End { goal: number == 1 },
-            Some(place) => Place::Act {
-                node: (place / 65536) as usize,
-                action: (place % 65536) as usize,
-            },
-        }
+        Place::of_number(number)
     }
 }
 

@@ -45,6 +45,8 @@ pub enum Goal {
     /// In chains of 6, and these in a tree of few levels.
     Left,
     Right,
+    /// The same, to the left, with "or" and "and" taking turns.
+    ByTurns,
     /// Pairs of "known false" or "known true", or of a fact or "known true".
     Or,
     Fact,
@@ -79,6 +81,7 @@ pub fn slow_sheets() -> impl Iterator<Item = (String, Sheet)> {
         shape(8, 7, 7, Reply::DifferentPairs, Goal::ByChance),
         shape(8, 7, 7, Reply::DifferentPairs, Goal::Left),
         shape(8, 7, 7, Reply::DifferentPairs, Goal::Right),
+        shape(8, 7, 7, Reply::DifferentPairs, Goal::ByTurns),
         shape(8, 7, 7, Reply::DifferentPairs, Goal::Or),
         shape(8, 7, 7, Reply::DifferentPairs, Goal::Fact),
     ];
@@ -180,9 +183,9 @@ fn different_pairs(random: &mut Random) -> [Vec<Objective>; 2] {
 impl Goal {
     fn of(self, atoms: usize) -> Epistemic {
         let passes = || Epistemic::Known(Objective::True);
-        let chains = |more: fn(Epistemic, Epistemic) -> Epistemic| {
-            let chain = (1..6).fold(passes(), |formula, _| more(formula, passes()));
-            balanced(&vec![chain; atoms.div_ceil(6)])
+        let chains = |chain: Epistemic| balanced(&vec![chain; atoms.div_ceil(6)]);
+        let chain = |more: fn(Epistemic, Epistemic) -> Epistemic| {
+            (1..6).fold(passes(), |formula, _| more(formula, passes()))
         };
         let mut random = Random::new(4);
         let mut pairs = |first: &mut dyn FnMut(&mut Random) -> Objective| {
@@ -193,8 +196,9 @@ impl Goal {
         match self {
             Goal::Tree => balanced(&vec![passes(); atoms]),
             Goal::ByChance => by_chance(&mut random, atoms),
-            Goal::Left => chains(|formula, atom| formula.and(atom)),
-            Goal::Right => chains(|formula, atom| atom.and(formula)),
+            Goal::Left => chains(chain(|formula, atom| formula.and(atom))),
+            Goal::Right => chains(chain(|formula, atom| atom.and(formula))),
+            Goal::ByTurns => chains(turns_left(6)),
             Goal::Or => pairs(&mut |_| Objective::False),
             Goal::Fact => pairs(&mut |random| Objective::Fact(random.below(8) as u8)),
         }
@@ -209,6 +213,25 @@ fn by_chance(random: &mut Random, atoms: usize) -> Epistemic {
     }
     let first = (atoms * 2 / 5 + random.below(atoms / 5 + 1)).max(1);
     by_chance(random, first).and(by_chance(random, atoms - first))
+}
+
+/// A chain to the right of so many atoms, an even number, in which "or" and "and" take
+/// turns, "or" outermost. It holds and every atom is tested: the last atom decides.
+pub fn turns_right(count: usize) -> Epistemic {
+    let last = Epistemic::Known(Objective::True);
+    (1..count).fold(last, |formula, i| match i % 2 {
+        0 => Epistemic::Known(Objective::True).and(formula),
+        _ => Epistemic::Known(Objective::False).or(formula),
+    })
+}
+
+/// The same to the left: what stands before an atom doesn't decide.
+pub fn turns_left(count: usize) -> Epistemic {
+    let first = Epistemic::Known(Objective::False);
+    (1..count).fold(first, |formula, i| match i % 2 {
+        0 => formula.and(Epistemic::Known(Objective::False)),
+        _ => formula.or(Epistemic::Known(Objective::True)),
+    })
 }
 
 /// How many atoms a formula has.

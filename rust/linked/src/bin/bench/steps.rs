@@ -13,7 +13,7 @@ use recovery::truth::holds_knowing;
 
 use crate::before::Before;
 use crate::sheets::{goal_of_atoms, most};
-use crate::slowest::atoms;
+use crate::slowest::{atoms, turns_left, turns_right};
 use crate::theories::{balanced, stays};
 use crate::{shown, time};
 
@@ -184,6 +184,9 @@ fn settle_rows() {
             if let Some(before) = &before {
                 assert_eq!(action_or_goal(before()), action_or_goal(expected));
             }
+            let proved = || proved().number();
+            let before = before.map(|before| move || before().number());
+            let rust = || rust().number();
             step_row(name, count, proved, before, data, rust);
         }
     }
@@ -228,6 +231,7 @@ fn formula_rows() {
     let tree = |count| balanced(&vec![holds(); count]);
     let right = |count| (1..count).fold(holds(), |formula, _| holds().and(formula));
     let left = |count| (1..count).fold(holds(), |formula, _| formula.and(holds()));
+    let pairs = |count: usize| balanced(&vec![fails().or(holds()); count / 2]);
     let longest = read(&most(2000, goal_of_atoms)).unwrap();
     let goal = |goal| Sheet {
         goal,
@@ -250,6 +254,10 @@ fn formula_rows() {
             "a goal, \"or\" to the right, the last holds",
             goal((1..14).fold(holds(), |formula, _| fails().or(formula))),
         ),
+        ("a goal, by turns to the right", goal(turns_right(14))),
+        ("a goal, by turns to the left", goal(turns_left(14))),
+        ("a goal, a tree of pairs joined by \"or\"", goal(pairs(14))),
+        ("a goal, a tree of pairs joined by \"or\"", goal(pairs(30))),
         ("a goal, a tree", goal(tree(30))),
         (
             "a goal, a tree of chains of 6 to the right",
@@ -308,8 +316,12 @@ fn formula_row(name: &str, count: usize, sheet: &Sheet) -> (f64, Option<f64>) {
     if let Some(before) = &before {
         assert_eq!(action_or_goal(before()), expected);
     }
+    let proved = || proved().number();
+    let before = before.map(|before| move || before().number());
+    let rust = || rust().number();
     let mut least = [f64::INFINITY; 3];
-    for _ in 0..7 {
+    // Short calls are disturbed easily: more batches than elsewhere.
+    for _ in 0..21 {
         let times = [
             time(proved),
             before.as_ref().map_or(f64::INFINITY, time),
