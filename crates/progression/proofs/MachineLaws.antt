@@ -3,7 +3,7 @@ use Prim.Native.Nat.{ℕ, zero, suc, _+_, _-_, _≤_, _<_, min}
 use mathlib.Core.Path.{_≡_, refl, sym, ap, _∙_}
 use mathlib.Core.List.{List, [], _∷_}
 use mathlib.Core.Bool.{Bool, true, false, not, _&&_, Bool·beq}
-use mathlib.Core.Logic.{⊎-elim, inl, inr}
+use mathlib.Core.Logic.{_⊎_, ⊎-elim, inl, inr}
 use native.Mathlib.Omega.{arith}
 use types.Run.{OneOf}
 use denote.Enum.Declared.{tagOf}
@@ -21,7 +21,7 @@ use Rattle.routine.specs.Memory.{nodeMost, setAt, nodeAt}
 use Rattle.routine.proofs.MemoryLaws.{past}
 use Rattle.routine.specs.Tables.{goalNode}
 use Rattle.progression.specs.declared.place.Place.{Place}
-use Rattle.progression.specs.Machine.{knownBy, atomHolds, joined, partNode, partsIn, partsHold, formulaNode, holdsAt, atNode, settledFrom, settled}
+use Rattle.progression.specs.Machine.{knownBy, atomHolds, joined, partNode, partsIn, partsHold, behind, holdsAt, atNode, settledFrom, settled}
 
 -- What a node leads to, by where it leads on.
 atNode-same : (formula : ℕ → Bool) (node : Node) (i : ℕ) (f g : ℕ → Place) → ((skip : ℕ) → f skip ≡ g skip) → atNode formula node i f ≡ atNode formula node i g
@@ -184,6 +184,49 @@ module _ (node : ℕ → Node) (isKnown : ℕ → Bool) (all : Bool) (inner : (s
   parts-other end i h both size e f =
       parts-by end i h (Node.Join both size) e ∙ ap (λ (b : Bool). if b then partsTo end (i + 1 + 0) else joined all (inner (min size (end - (i + 1))) (i + 1)) (partsTo end (i + 1 + size))) f
 
+-- A part that decides, or doesn't; one that is joined with none.
+decided : (all x rest : Bool) → x ≡ not all → joined all x rest ≡ not all
+unfolding joined
+decided true x rest e = rw e
+decided false x rest e = rw e
+
+undecided : (all x rest : Bool) → x ≡ all → joined all x rest ≡ rest
+unfolding joined
+undecided true x rest e = rw e
+undecided false x rest e = rw e
+
+pub joined-none : (all x : Bool) → joined all x all ≡ x
+unfolding joined
+joined-none true true = refl
+joined-none true false = refl
+joined-none false true = refl
+joined-none false false = refl
+
+-- Two ways to join that are the same, and two that aren't.
+same-way : (all : Bool) → Bool·beq all all ≡ true
+same-way true = refl
+same-way false = refl
+
+other-way : (all : Bool) → Bool·beq (not all) all ≡ false
+other-way true = refl
+other-way false = refl
+
+-- A node by its tag: none of a formula.
+none-of : (n : ℕ) → 4 ≤ n → OneOf (0 ∷ 1 ∷ 2 ∷ 3 ∷ []) n → ⊥
+none-of n h (inl e) = omega arith
+none-of n h (inr (inl e)) = omega arith
+none-of n h (inr (inr (inl e))) = omega arith
+none-of n h (inr (inr (inr e))) = omega arith
+
+no-part : (isKnown : ℕ → Bool) (all : Bool) (inner rest : ℕ → Bool) (x : Node) → OneOf (0 ∷ 1 ∷ 2 ∷ 3 ∷ []) (tagOf the-type x) → partNode isKnown all inner rest x ≡ false
+unfolding partNode
+no-part isKnown all inner rest (Node.Act a number) t = refl
+no-part isKnown all inner rest (Node.Branch met unmet) t = refl
+no-part isKnown all inner rest (Node.Jump skip) t = refl
+no-part isKnown all inner rest (Node.End count) t = refl
+no-part isKnown all inner rest (Node.Join both size) t = absurd (none-of 4 (omega arith) t)
+no-part isKnown all inner rest (Node.Atom positive k) t = absurd (none-of 5 (omega arith) t)
+
 -- The parts in a memory, where a level is left, and where none is.
 module _ (nodes : List ℕ) (isKnown : ℕ → Bool) where
   pub parts-none : (left : ℕ) (all : Bool) (size i : ℕ) → left ≡ 0 → false ≡ partsHold nodes isKnown left all size i
@@ -195,46 +238,71 @@ module _ (nodes : List ℕ) (isKnown : ℕ → Bool) where
   parts-to (suc left) all end i h = let l : suc left - 1 ≡ left = omega arith in rw l
   parts-to zero all end i h = absurd (omega arith)
 
+  -- The parts from node i to an end, where `left` levels are left for those that are joined the other way.
+  abbrev pub partsLeft : (left : ℕ) (all : Bool) (end i : ℕ) → Bool
+  partsLeft left all = partsTo (nodeAt nodes) isKnown all (partsHold nodes isKnown (left - 1) (not all))
+
+  module _ (left : ℕ) (all : Bool) (end i : ℕ) (h : i < end) where
+    -- By an atom, of which `holds` is told.
+    pub atom-decides : (positive : Bool) (k : ℕ) → Node.Atom positive k ≡ nodeAt nodes i → (holds : Bool) → holds ≡ atomHolds isKnown positive k → holds ≡ not all → partsLeft left all end i ≡ not all
+    atom-decides positive k e holds t d = parts-atom (nodeAt nodes) isKnown all (partsHold nodes isKnown (left - 1) (not all)) end i h positive k e ∙ decided all _ _ (sym t ∙ d)
+
+    pub atom-passes : (positive : Bool) (k : ℕ) → Node.Atom positive k ≡ nodeAt nodes i → (holds : Bool) → holds ≡ atomHolds isKnown positive k → holds ≡ all → partsLeft left all end i ≡ partsLeft left all end (i + 1)
+    atom-passes positive k e holds t d = parts-atom (nodeAt nodes) isKnown all (partsHold nodes isKnown (left - 1) (not all)) end i h positive k e ∙ undecided all _ _ (sym t ∙ d)
+
+    -- By a part that is joined in the same way.
+    pub alike-passes : (both : Bool) (size : ℕ) → Node.Join both size ≡ nodeAt nodes i → both ≡ all → partsLeft left all end i ≡ partsLeft left all end (i + 1)
+    alike-passes both size e b =
+        parts-alike (nodeAt nodes) isKnown all (partsHold nodes isKnown (left - 1) (not all)) end i h both size e (ap (λ (x : Bool). Bool·beq x all) b ∙ same-way all)
+
+    -- By one that is joined the other way, of which `holds` is told by its nodes before node `stop`.
+    module _ (both : Bool) (size stop : ℕ) (e : Node.Join both size ≡ nodeAt nodes i) (b : both ≡ not all) (s : stop ≡ min (i + 1 + size) end) (holds : Bool) (t : holds ≡ partsHold nodes isKnown (left - 1) (not all) (stop - (i + 1)) (i + 1)) where
+      other-is : partsLeft left all end i ≡ joined all holds (partsLeft left all end (i + 1 + size))
+      other-is =
+          let m : stop - (i + 1) ≡ min size (end - (i + 1)) = omega arith in
+          parts-other (nodeAt nodes) isKnown all (partsHold nodes isKnown (left - 1) (not all)) end i h both size e (ap (λ (x : Bool). Bool·beq x all) b ∙ other-way all)
+          ∙ ap (λ (x : Bool). joined all x (partsLeft left all end (i + 1 + size))) (sym (t ∙ ap (λ (n : ℕ). partsHold nodes isKnown (left - 1) (not all) n (i + 1)) m))
+
+      pub other-decides : holds ≡ not all → partsLeft left all end i ≡ not all
+      other-decides d = other-is ∙ decided all _ _ d
+
+      pub other-passes : holds ≡ all → partsLeft left all end i ≡ partsLeft left all end (i + 1 + size)
+      other-passes d = other-is ∙ undecided all _ _ d
+
+    -- By a node that is no part.
+    pub none-stands : (x : Node) → x ≡ nodeAt nodes i → OneOf (0 ∷ 1 ∷ 2 ∷ 3 ∷ []) (tagOf the-type x) → partsLeft left all end i ≡ false
+    none-stands x e t = parts-by (nodeAt nodes) isKnown all (partsHold nodes isKnown (left - 1) (not all)) end i h x e ∙ no-part isKnown all _ _ x t
+
+  -- Behind the last.
+  pub none-left : (left : ℕ) (all : Bool) (end i : ℕ) → end ≤ i → partsLeft left all end i ≡ all
+  none-left left all = parts-past (nodeAt nodes) isKnown all (partsHold nodes isKnown (left - 1) (not all))
+
   -- What holds at a node, by what stands there.
-  pub holds-by : (i : ℕ) (x : Node) → x ≡ nodeAt nodes i → formulaNode isKnown (λ all size. partsHold nodes isKnown (deepest - 1) all size (i + 1)) x ≡ holdsAt nodes isKnown i
+  pub holds-by : (i : ℕ) (x : Node) → x ≡ nodeAt nodes i → holdsAt nodes isKnown i ≡ partsLeft deepest true (i + 1 + behind x) i
   unfolding holdsAt
-  holds-by i x e = ap (formulaNode isKnown (λ all size. partsHold nodes isKnown (deepest - 1) all size (i + 1))) e
+  holds-by i x e =
+      let n : suc (behind x) ≡ i + 1 + behind x - i = omega arith in
+      ap (λ (y : Node). partsHold nodes isKnown deepest true (suc (behind y)) i) (sym e) ∙ ap (λ (v : ℕ). partsHold nodes isKnown deepest true v i) n
+      ∙ parts-to deepest true (i + 1 + behind x) i (omega arith)
 
   pub atom-holds : (i : ℕ) (positive : Bool) (k : ℕ) → Node.Atom positive k ≡ nodeAt nodes i → atomHolds isKnown positive k ≡ holdsAt nodes isKnown i
-  unfolding formulaNode
-  atom-holds i positive k e = holds-by i (Node.Atom positive k) e
+  unfolding behind
+  atom-holds i positive k e =
+      sym (holds-by i (Node.Atom positive k) e ∙ parts-atom (nodeAt nodes) isKnown true (partsHold nodes isKnown (deepest - 1) false) (i + 1 + 0) i (omega arith) positive k e
+      ∙ ap (joined true (atomHolds isKnown positive k)) (none-left deepest true (i + 1 + 0) (i + 1) (omega arith)) ∙ joined-none true _)
 
-  pub join-holds : (i : ℕ) (all : Bool) (size : ℕ) → Node.Join all size ≡ nodeAt nodes i → partsHold nodes isKnown (deepest - 1) all size (i + 1) ≡ holdsAt nodes isKnown i
-  unfolding formulaNode
-  join-holds i all size e = holds-by i (Node.Join all size) e
+  -- A formula of parts is the only part of an "and", or where "and" joins them its parts are.
+  pub join-holds : (i : ℕ) (all : Bool) (size : ℕ) → Node.Join all size ≡ nodeAt nodes i → (first : ℕ) → ((all ≡ true) × (first ≡ i + 1)) ⊎ (first ≡ i)
+      → partsHold nodes isKnown deepest true (i + 1 + size - first) first ≡ holdsAt nodes isKnown i
+  unfolding behind
+  join-holds i all size e first (inl (a, f)) =
+      ap (λ (j : ℕ). partsHold nodes isKnown deepest true (i + 1 + size - j) j) f ∙ parts-to deepest true (i + 1 + size) (i + 1) (omega arith)
+      ∙ sym (holds-by i (Node.Join all size) e ∙ alike-passes deepest true (i + 1 + size) i (omega arith) all size e a)
+  join-holds i all size e first (inr f) =
+      ap (λ (j : ℕ). partsHold nodes isKnown deepest true (i + 1 + size - j) j) f ∙ parts-to deepest true (i + 1 + size) i (omega arith) ∙ sym (holds-by i (Node.Join all size) e)
 
--- A part that decides, or doesn't.
-pub part-decides : (all part x rest : Bool) → not (Bool·beq part all) ≡ true → part ≡ x → not all ≡ joined all x rest
-unfolding joined
-part-decides true true x rest n e = absurd (not-both n refl)
-part-decides true false x rest n e = rw (← e)
-part-decides false true x rest n e = rw (← e)
-part-decides false false x rest n e = absurd (not-both n refl)
-
-pub rest-decides : (all part x rest : Bool) → not (Bool·beq part all) ≡ false → part ≡ x → joined all x rest ≡ rest
-unfolding joined
-rest-decides true true x rest n e = rw (← e)
-rest-decides true false x rest n e = absurd (not-both refl n)
-rest-decides false true x rest n e = absurd (not-both refl n)
-rest-decides false false x rest n e = rw (← e)
-
--- Two ways to join are the same, or one is the other's other.
-pub alike : (both all : Bool) → not (Bool·beq both all) ≡ false → Bool·beq both all ≡ true
-alike true true n = refl
-alike true false n = absurd (not-both refl n)
-alike false true n = absurd (not-both refl n)
-alike false false n = refl
-
-pub other-way : (both all : Bool) → not (Bool·beq both all) ≡ true → (Bool·beq both all ≡ false) × (both ≡ not all)
-other-way true true n = absurd (not-both n refl)
-other-way true false n = (refl, refl)
-other-way false true n = (refl, refl)
-other-way false false n = absurd (not-both n refl)
+  pub no-formula : (i : ℕ) (x : Node) → x ≡ nodeAt nodes i → OneOf (0 ∷ 1 ∷ 2 ∷ 3 ∷ []) (tagOf the-type x) → false ≡ holdsAt nodes isKnown i
+  no-formula i x e t = sym (holds-by i x e ∙ none-stands deepest true (i + 1 + behind x) i (omega arith) x e t)
 
 -- An atom holds exactly if its flag says whether its formula is known.
 pub atom-known : (isKnown : ℕ → Bool) (positive : Bool) (k : ℕ) → Bool·beq (isKnown k) positive ≡ atomHolds isKnown positive k
@@ -261,31 +329,6 @@ node-inside nodes i x e n = go (ltb i nodeMost) refl
 
 pub join-inside : (nodes : List ℕ) (i : ℕ) (all : Bool) (size : ℕ) → Node.Join all size ≡ nodeAt nodes i → i < nodeMost
 join-inside nodes i all size e = node-inside nodes i (Node.Join all size) e (λ f. let z : _≡_ {A = ℕ} 0 1 = cc in omega arith)
-
--- A node by its tag: none of a formula.
-none-of : (n : ℕ) → 4 ≤ n → OneOf (0 ∷ 1 ∷ 2 ∷ 3 ∷ []) n → ⊥
-none-of n h (inl e) = omega arith
-none-of n h (inr (inl e)) = omega arith
-none-of n h (inr (inr (inl e))) = omega arith
-none-of n h (inr (inr (inr e))) = omega arith
-
-pub no-part : (isKnown : ℕ → Bool) (all : Bool) (inner rest : ℕ → Bool) (x : Node) → OneOf (0 ∷ 1 ∷ 2 ∷ 3 ∷ []) (tagOf the-type x) → partNode isKnown all inner rest x ≡ false
-unfolding partNode
-no-part isKnown all inner rest (Node.Act a number) t = refl
-no-part isKnown all inner rest (Node.Branch met unmet) t = refl
-no-part isKnown all inner rest (Node.Jump skip) t = refl
-no-part isKnown all inner rest (Node.End count) t = refl
-no-part isKnown all inner rest (Node.Join both size) t = absurd (none-of 4 (omega arith) t)
-no-part isKnown all inner rest (Node.Atom positive k) t = absurd (none-of 5 (omega arith) t)
-
-pub no-formula : (isKnown : ℕ → Bool) (parts : Bool → ℕ → Bool) (x : Node) → OneOf (0 ∷ 1 ∷ 2 ∷ 3 ∷ []) (tagOf the-type x) → false ≡ formulaNode isKnown parts x
-unfolding formulaNode
-no-formula isKnown parts (Node.Act a number) t = refl
-no-formula isKnown parts (Node.Branch met unmet) t = refl
-no-formula isKnown parts (Node.Jump skip) t = refl
-no-formula isKnown parts (Node.End count) t = refl
-no-formula isKnown parts (Node.Join all size) t = absurd (none-of 4 (omega arith) t)
-no-formula isKnown parts (Node.Atom positive k) t = absurd (none-of 5 (omega arith) t)
 
 -- A node by its tag: an end, none of the program's others.
 none-of-program : (n : ℕ) → n < 3 → OneOf (3 ∷ 4 ∷ 5 ∷ []) n → ⊥

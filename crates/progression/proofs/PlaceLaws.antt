@@ -24,8 +24,8 @@ use Rattle.routine.specs.Tables.{atoms, atomSets, formulaSize, formulaNodes, si
 use Rattle.routine.proofs.SizeLaws.{formula-length, atom-sets-length, nodes-length, program-sets-length}
 use Rattle.routine.proofs.TableLaws.{noStates, noNode}
 use Rattle.progression.specs.declared.place.Place.{Place}
-use Rattle.progression.specs.Machine.{knownBy, atomHolds, joined, partsHold, holdsAt, atNode}
-use Rattle.progression.proofs.MachineLaws.{goesTo, goes-by, partsTo, parts-past, parts-atom, parts-alike, parts-other, parts-to, other-way, atom-holds, join-holds}
+use Rattle.progression.specs.Machine.{knownBy, atomHolds, joined, partsHold, behind, holdsAt, atNode}
+use Rattle.progression.proofs.MachineLaws.{goesTo, goes-by, partsTo, parts-past, parts-atom, parts-alike, parts-other, parts-to, partsLeft, none-left, joined-none, holds-by}
 use Rattle.progression.proofs.PolicyLaws.{leftOf, allLeft}
 
 -- Items stand one behind the other from place i on, where `get` tells what stands at a place.
@@ -64,14 +64,7 @@ more-levels (not-known f) left d = omega arith
 more-levels (all-of f g) left d = (omega (arith, d .0), more-levels f (left - 1) (d .1), more-levels g (left - 1) (d .2))
 more-levels (any-of f g) left d = (omega (arith, d .0), more-levels f (left - 1) (d .1), more-levels g (left - 1) (d .2))
 
--- A part joined with none; parts joined in the same way.
-joined-none : (all x : Bool) → joined all x all ≡ x
-unfolding joined
-joined-none true true = refl
-joined-none true false = refl
-joined-none false true = refl
-joined-none false false = refl
-
+-- Parts joined in the same way, one behind the other.
 joined-twice : (both all x y rest : Bool) → Bool·beq both all ≡ true → joined all x (joined all y rest) ≡ joined all (joined both x y) rest
 unfolding joined
 joined-twice true true true y rest t = refl
@@ -80,6 +73,12 @@ joined-twice false false true y rest t = refl
 joined-twice false false false y rest t = refl
 joined-twice true false x y rest t = absurd (not-both t refl)
 joined-twice false true x y rest t = absurd (not-both t refl)
+
+differing : (both all : Bool) → Bool·beq both all ≡ false → not all ≡ both
+differing true true f = absurd (not-both refl f)
+differing true false f = refl
+differing false true f = refl
+differing false false f = absurd (not-both refl f)
 
 module _ (nodes sets : List ℕ) (set : States) where
   -- A formula stands from node i on, and its sets from set k on.
@@ -107,7 +106,7 @@ module _ (nodes sets : List ℕ) (set : States) where
 
   -- The parts from node i to an end, where `left` levels are left.
   abbrev partsOf : (left : ℕ) (all : Bool) (stop i : ℕ) → Bool
-  partsOf left all = partsTo (nodeAt nodes) (knownBy sets set) all (partsHold nodes (knownBy sets set) (left - 1) (not all))
+  partsOf = partsLeft nodes (knownBy sets set)
 
   -- A formula at node i is a part: it is joined with those behind it.
   abbrev IsPart : (left i : ℕ) → Epistemic → Type 0
@@ -146,7 +145,7 @@ module _ (nodes sets : List ℕ) (set : States) where
           let m : min (formulaSize f + formulaSize g) (stop - (i + 1)) ≡ formulaSize f + formulaSize g = omega arith in
           parts-other (nodeAt nodes) (knownBy sets set) all (partsHold nodes (knownBy sets set) (left - 1) (not all)) stop i (omega arith) both (formulaSize f + formulaSize g) (sym e) t
           ∙ ap (λ (x : Bool). joined all x (partsOf left all stop (i + 1 + (formulaSize f + formulaSize g))))
-          (ap (λ (n : ℕ). partsHold nodes (knownBy sets set) (left - 1) (not all) n (i + 1)) m ∙ two-hold (left - 1) (i + 1) f g h p′ q′ (not all) ∙ ap (λ (x : Bool). joined x (sat f) (sat g)) (sym (other-way both all (ap not t) .1)))
+          (ap (λ (n : ℕ). partsHold nodes (knownBy sets set) (left - 1) (not all) n (i + 1)) m ∙ two-hold (left - 1) (i + 1) f g h p′ q′ (not all) ∙ ap (λ (x : Bool). joined x (sat f) (sat g)) (differing both all t))
           ∙ ap (λ (j : ℕ). joined all (joined both (sat f) (sat g)) (partsOf left all stop j)) behind
 
   -- A formula of at most so many levels is a part.
@@ -169,21 +168,21 @@ module _ (nodes sets : List ℕ) (set : States) where
       (is-part f left (i + 1) k (more-levels f left (d .1)) (p .0)) (is-part g left (i + 1 + formulaSize f) (k + atoms f) (more-levels g left (d .2)) (p .1))
       (is-part f (left - 1) (i + 1) k (d .1) (p .0)) (is-part g (left - 1) (i + 1 + formulaSize f) (k + atoms f) (d .2) (p .1)) all stop l
 
+  -- Its first node tells how many it has.
+  size-told : (f : Epistemic) (i k : ℕ) → FormulaAt i k f → suc (behind (nodeAt nodes i)) ≡ formulaSize f
+  unfolding formulaNodes formulaSize behind
+  size-told (known f) i k (r, s) = ap (λ (x : Node). suc (behind x)) (row-first (nodeAt nodes) noNode i _ [] r)
+  size-told (not-known f) i k (r, s) = ap (λ (x : Node). suc (behind x)) (row-first (nodeAt nodes) noNode i _ [] r)
+  size-told (all-of f g) i k (r, s) = ap (λ (x : Node). suc (behind x)) (row-first (nodeAt nodes) noNode i _ (formulaNodes f k ++ formulaNodes g (k + atoms f)) r)
+  size-told (any-of f g) i k (r, s) = ap (λ (x : Node). suc (behind x)) (row-first (nodeAt nodes) noNode i _ (formulaNodes f k ++ formulaNodes g (k + atoms f)) r)
+
   -- A formula holds on its nodes as it does in the knowledge state.
   pub formula-holds : (f : Epistemic) (i k : ℕ) → Levels f deepest → FormulaAt i k f → holdsAt nodes (knownBy sets set) i ≡ satisfies (members set) f
-  unfolding formulaNodes atomSets Levels satisfies atomHolds joined knownBy
-  formula-holds (known f) i k d (r, s) =
-      sym (atom-holds nodes (knownBy sets set) i true k (sym (row-first (nodeAt nodes) noNode i _ [] r))) ∙ table-known (setAt sets) set k f (row-first (setAt sets) noStates k _ [] s)
-  formula-holds (not-known f) i k d (r, s) =
-      sym (atom-holds nodes (knownBy sets set) i false k (sym (row-first (nodeAt nodes) noNode i _ [] r))) ∙ ap not (table-known (setAt sets) set k f (row-first (setAt sets) noStates k _ [] s))
-  formula-holds (all-of f g) i k d (r, s) =
-      let p = parts f g i k _ r s in
-      sym (join-holds nodes (knownBy sets set) i true (formulaSize f + formulaSize g) (sym (row-first (nodeAt nodes) noNode i _ (formulaNodes f k ++ formulaNodes g (k + atoms f)) r)))
-      ∙ two-hold (deepest - 1) (i + 1) f g (omega arith) (is-part f (deepest - 1) (i + 1) k (d .1) (p .0)) (is-part g (deepest - 1) (i + 1 + formulaSize f) (k + atoms f) (d .2) (p .1)) true
-  formula-holds (any-of f g) i k d (r, s) =
-      let p = parts f g i k _ r s in
-      sym (join-holds nodes (knownBy sets set) i false (formulaSize f + formulaSize g) (sym (row-first (nodeAt nodes) noNode i _ (formulaNodes f k ++ formulaNodes g (k + atoms f)) r)))
-      ∙ two-hold (deepest - 1) (i + 1) f g (omega arith) (is-part f (deepest - 1) (i + 1) k (d .1) (p .0)) (is-part g (deepest - 1) (i + 1 + formulaSize f) (k + atoms f) (d .2) (p .1)) false
+  formula-holds f i k d at =
+      let stop = i + formulaSize f in
+      let e : i + 1 + behind (nodeAt nodes i) ≡ stop = omega (arith, size-told f i k at) in
+      holds-by nodes (knownBy sets set) i (nodeAt nodes i) refl ∙ ap (λ (v : ℕ). partsOf deepest true v i) e ∙ is-part f deepest i k d at true stop (omega arith)
+      ∙ ap (joined true (sat f)) (none-left nodes (knownBy sets set) deepest true stop stop (omega arith)) ∙ joined-none true (sat f)
 
 -- What stands in a memory: the end of the program at node `end-at`; there are `count` actions.
 module _ (nodes sets : List ℕ) (end-at count : ℕ) where

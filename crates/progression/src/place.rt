@@ -9,7 +9,9 @@ use routine::node_at;
 use routine::set_at;
 use states::States;
 ghost use mathlib.Core.Path.{_≡_};
+ghost use mathlib.Core.Bool.{true, false};
 ghost use Prim.Native.Nat.{_-_, min};
+ghost use Rattle.states.specs.Sets.{ofWords};
 ghost use Rattle.progression.specs.Machine.{knownBy, atomHolds, partsHold, holdsAt, settled, Inside};
 
 // An action node with its action, or the end and whether the goal holds there.
@@ -42,21 +44,22 @@ fn least(a: usize, b: usize) -> usize
     b
 }
 
-// Whether all parts (`all`), or one of them, hold that stand from node `at` on before node `end`; a part that is joined the
-// other way takes one of the `left` levels. Parts that no longer decide are skipped. (Parts joined in the same way are gone
-// through without a call each, so that chains and trees of one connective cost little more than their atoms. No part goes on
-// behind `end`, so that in any memory a formula meets each node at most once at each level.)
-fn parts_hold(
+// Whether all parts hold that stand from node `at` on before node `end`, where the states of a set are possible, whose words
+// are lent. A part joined by "or" takes one of the `left` levels; one joined by "and" stands for its parts, so that a chain
+// or tree of one connective costs little more than its atoms. Behind a part that fails nothing is tested. No part goes on
+// behind `end`, so that in any memory a formula meets each node at most once at each level. (That "and" and "or" have a
+// function each, and that the set is lent, makes calls cheaper: docs/PERFORMANCE.md.)
+fn all_hold(
     nodes: &[u16; NODE_CELLS],
     sets: &[u64; SET_WORDS],
-    set: States,
-    all: bool,
+    words: &[u64; States::WORDS],
     at: usize,
     end: usize,
     left: usize,
 ) -> bool
-    ensures { λ r. ⌜ r ≡ partsHold (now (nodes .entry)) (knownBy (now (sets .entry)) set) left all (end - at) at ⌝ }
+    ensures { λ r. ⌜ r ≡ partsHold (now (nodes .entry)) (knownBy (now (sets .entry)) (ofWords (now (words .entry)))) left true (end - at) at ⌝ }
 {
+    let set = States::of_words(words);
     if left == 0 {
         return false;
     }
@@ -64,17 +67,17 @@ fn parts_hold(
     while i < end {
         match node_at(nodes, i) {
             Node::Atom(positive, k) => {
-                if atom_holds(sets, set, positive, k) != all {
-                    return !all;
+                if !atom_holds(sets, set, positive, k) {
+                    return false;
                 }
                 i = i + 1;
             }
-            Node::Join(both, size) => {
+            Node::Join(all, size) => {
                 i = i + 1;
-                if both != all {
+                if !all {
                     let stop = least(i + size, end);
-                    if parts_hold(nodes, sets, set, both, i, stop, left - 1) != all {
-                        return !all;
+                    if !one_holds(nodes, sets, words, i, stop, left - 1) {
+                        return false;
                     }
                     i = i + size;
                 }
@@ -84,24 +87,67 @@ fn parts_hold(
             }
         }
     }
-    all
+    true
 }
 
-// Whether the formula at node `at` holds where the states of a set are possible.
+// Whether one of the parts holds that stand from node `at` on before node `end`. A part joined by "and" takes a level, one
+// joined by "or" stands for its parts, and behind a part that holds nothing is tested.
+fn one_holds(
+    nodes: &[u16; NODE_CELLS],
+    sets: &[u64; SET_WORDS],
+    words: &[u64; States::WORDS],
+    at: usize,
+    end: usize,
+    left: usize,
+) -> bool
+    ensures { λ r. ⌜ r ≡ partsHold (now (nodes .entry)) (knownBy (now (sets .entry)) (ofWords (now (words .entry)))) left false (end - at) at ⌝ }
+{
+    let set = States::of_words(words);
+    if left == 0 {
+        return false;
+    }
+    let mut i = at;
+    while i < end {
+        match node_at(nodes, i) {
+            Node::Atom(positive, k) => {
+                if atom_holds(sets, set, positive, k) {
+                    return true;
+                }
+                i = i + 1;
+            }
+            Node::Join(all, size) => {
+                i = i + 1;
+                if all {
+                    let stop = least(i + size, end);
+                    if all_hold(nodes, sets, words, i, stop, left - 1) {
+                        return true;
+                    }
+                    i = i + size;
+                }
+            }
+            _ => {
+                return false;
+            }
+        }
+    }
+    false
+}
+
+// Whether the formula at node `at` holds where the states of a set are possible: as the only part of an "and", which is
+// its parts if "and" joins them.
 fn formula_holds(nodes: &[u16; NODE_CELLS], sets: &[u64; SET_WORDS], set: States, at: usize) -> bool
     ensures { λ r. ⌜ r ≡ holdsAt (now (nodes .entry)) (knownBy (now (sets .entry)) set) at ⌝ }
 {
     match node_at(nodes, at) {
         Node::Atom(positive, k) => atom_holds(sets, set, positive, k),
-        Node::Join(all, size) => parts_hold(
-            nodes,
-            sets,
-            set,
-            all,
-            at + 1,
-            at + 1 + size,
-            DEPTH - 1,
-        ),
+        Node::Join(all, size) => {
+            let mut first = at;
+            if all {
+                first = at + 1;
+            }
+            let words = set.words();
+            all_hold(nodes, sets, &words, first, at + 1 + size, DEPTH)
+        }
         _ => false,
     }
 }

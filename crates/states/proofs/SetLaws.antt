@@ -12,8 +12,13 @@ use borrow.Author.Tests.{eq-eqb, ne-eqb, eqb-true}
 use Rattle.lists.specs.Lists.{if_then_else_, upFrom, below, keep, nonempty}
 use Rattle.lists.proofs.ListLaws.{same-test, not-both, both-true, and-both, keep-mem, mem-keep, keep-same, mem-nonempty, nonempty-mem, upFrom-mem, mem-upFrom}
 use Rattle.states.specs.declared.States.{States}
-use Rattle.states.specs.Sets.{bit, word, member, wordOf, setOf, members, leastOf}
+use Rattle.states.specs.Sets.{bit, words, ofWords, word, member, wordOf, setOf, members, leastOf}
 use Rattle.states.proofs.BitLaws.{bit-not, bit-none, bit-pow, bits-equal, or-none, word-lt, word-bit}
+
+-- The words of a set are that set.
+pub words-back : (set : States) → ofWords (words set) ≡ set
+unfolding words ofWords
+words-back set = refl
 
 -- What holds of each of four.
 pub four : (P : ℕ → Type 0) → P 0 → P 1 → P 2 → P 3 → (i : ℕ) → i < 4 → P i
