@@ -33,19 +33,20 @@ atNode-same formula (Node.End count) i f g h = refl
 atNode-same formula (Node.Join all size) i f g h = refl
 atNode-same formula (Node.Atom positive k) i f g h = refl
 
+-- Skipping nodes is going on behind them.
+module _ {A : Type 0} (f : (left skip i : ℕ) → A) (z : A) (none : (skip i : ℕ) → f zero skip i ≡ z) (more : (left skip i : ℕ) → f (suc left) (suc skip) i ≡ f left skip (suc i)) where
+  skipped : (left skip i l j : ℕ) → l ≡ left - skip → j ≡ i + skip → f left skip i ≡ f l 0 j
+  skipped zero skip i l j e d = let n : l ≡ 0 = omega arith in none skip i ∙ sym (none 0 j) ∙ rw n
+  skipped (suc left) (suc skip) i l j e d = more left skip i ∙ skipped left skip (suc i) l j (omega arith) (omega arith)
+  skipped (suc left) zero i l j e d =
+      let n : l ≡ suc left = omega arith in
+      let k : j ≡ i = omega arith in
+      rw (n, k)
+
 module _ (node : ℕ → Node) (formula : ℕ → Bool) where
-  -- Skipping nodes is going on behind them.
-  skipped : (left skip i : ℕ) → settledFrom node formula left skip i ≡ settledFrom node formula (left - skip) 0 (i + skip)
+  settled-skipped : (left skip i l j : ℕ) → l ≡ left - skip → j ≡ i + skip → settledFrom node formula left skip i ≡ settledFrom node formula l 0 j
   unfolding settledFrom
-  skipped zero skip i = let e : 0 - skip ≡ 0 = omega arith in rw e
-  skipped (suc left) (suc skip) i =
-      let l : suc left - suc skip ≡ left - skip = omega arith in
-      let j : i + suc skip ≡ suc i + skip = omega arith in
-      rw (l, j) (skipped left skip (suc i))
-  skipped (suc left) zero i =
-      let e : suc left - 0 ≡ suc left = omega arith in
-      let j : i + 0 ≡ i = omega arith in
-      rw (e, j)
+  settled-skipped = skipped (settledFrom node formula) (Place.End false) (λ skip i. refl) (λ left skip i. refl)
 
   settled-here : (left i : ℕ) → settledFrom node formula (suc left) 0 i ≡ atNode formula (node i) i (λ skip. settledFrom node formula left skip (suc i))
   unfolding settledFrom
@@ -82,13 +83,8 @@ module _ (node : ℕ → Node) (formula : ℕ → Bool) where
   goes-on i h =
       let l : nodeMost - i ≡ suc (nodeMost - (i + 1)) = omega arith in
       ap (λ (left : ℕ). settledFrom node formula left 0 i) l ∙ settled-here (nodeMost - (i + 1)) i
-      ∙ atNode-same formula (node i) i (λ skip. settledFrom node formula (nodeMost - (i + 1)) skip (suc i)) (λ skip. goesTo (i + 1 + skip)) onward
-    where
-      onward : (skip : ℕ) → settledFrom node formula (nodeMost - (i + 1)) skip (suc i) ≡ goesTo (i + 1 + skip)
-      onward skip =
-          let l : nodeMost - (i + 1) - skip ≡ nodeMost - (i + 1 + skip) = omega arith in
-          let j : suc i + skip ≡ i + 1 + skip = omega arith in
-          skipped (nodeMost - (i + 1)) skip (suc i) ∙ rw (l, j)
+      ∙ atNode-same formula (node i) i (λ skip. settledFrom node formula (nodeMost - (i + 1)) skip (suc i)) (λ skip. goesTo (i + 1 + skip))
+      (λ skip. settled-skipped (nodeMost - (i + 1)) skip (suc i) (nodeMost - (i + 1 + skip)) (i + 1 + skip) (omega arith) (omega arith))
 
   pub goes-by : (i : ℕ) → i < nodeMost → (x : Node) → x ≡ node i → goesTo i ≡ atNode formula x i (λ skip. goesTo (i + 1 + skip))
   goes-by i h x e = goes-on i h ∙ ap (λ (y : Node). atNode formula y i (λ skip. goesTo (i + 1 + skip))) (sym e)
@@ -106,9 +102,7 @@ module _ (node : ℕ → Node) (formula : ℕ → Bool) where
 -- The place that a program reaches from a node on.
 pub settled-goes : (nodes sets : List ℕ) (set : States) (at : ℕ) → settled nodes sets set at ≡ goesTo (nodeAt nodes) (holdsAt nodes (knownBy sets set)) at
 unfolding settled
-settled-goes nodes sets set at =
-    let e : 0 + at ≡ at = omega arith in
-    skipped (nodeAt nodes) (holdsAt nodes (knownBy sets set)) nodeMost at 0 ∙ ap (settledFrom (nodeAt nodes) (holdsAt nodes (knownBy sets set)) (nodeMost - at) 0) e
+settled-goes nodes sets set at = settled-skipped (nodeAt nodes) (holdsAt nodes (knownBy sets set)) nodeMost at 0 (nodeMost - at) at refl (omega arith)
 
 -- An action that it reaches stands at that node or behind it.
 pub settled-forward : (nodes sets : List ℕ) (set : States) (at i a : ℕ) → settled nodes sets set at ≡ Place.Act i a → (at ≤ i) × (i < nodeMost)
@@ -117,18 +111,9 @@ settled-forward nodes sets set at i a e = let r = forward (nodeAt nodes) (holdsA
 
 -- The parts from a node on, joined by "and" (`all`) or "or".
 module _ (node : ℕ → Node) (isKnown : ℕ → Bool) (all : Bool) (inner : (size i : ℕ) → Bool) where
-  -- Skipping nodes is going on behind them.
-  parts-skipped : (size skip i : ℕ) → partsIn node isKnown all inner size skip i ≡ partsIn node isKnown all inner (size - skip) 0 (i + skip)
+  parts-skipped : (size skip i l j : ℕ) → l ≡ size - skip → j ≡ i + skip → partsIn node isKnown all inner size skip i ≡ partsIn node isKnown all inner l 0 j
   unfolding partsIn
-  parts-skipped zero skip i = let e : 0 - skip ≡ 0 = omega arith in rw e
-  parts-skipped (suc size) (suc skip) i =
-      let l : suc size - suc skip ≡ size - skip = omega arith in
-      let j : i + suc skip ≡ suc i + skip = omega arith in
-      rw (l, j) (parts-skipped size skip (suc i))
-  parts-skipped (suc size) zero i =
-      let e : suc size - 0 ≡ suc size = omega arith in
-      let j : i + 0 ≡ i = omega arith in
-      rw (e, j)
+  parts-skipped = skipped (partsIn node isKnown all inner) all (λ skip i. refl) (λ size skip i. refl)
 
   parts-here : (size i : ℕ) → partsIn node isKnown all inner (suc size) 0 i ≡ partNode isKnown all (λ n. inner (min n size) (suc i)) (λ skip. partsIn node isKnown all inner size skip (suc i)) (node i)
   unfolding partsIn
@@ -154,13 +139,7 @@ module _ (node : ℕ → Node) (isKnown : ℕ → Bool) (all : Bool) (inner : (s
       let l : end - i ≡ suc (end - (i + 1)) = omega arith in
       ap (λ (n : ℕ). partsIn node isKnown all inner n 0 i) l ∙ parts-here (end - (i + 1)) i
       ∙ ap (partNode isKnown all (λ n. inner (min n (end - (i + 1))) (suc i)) (λ skip. partsIn node isKnown all inner (end - (i + 1)) skip (suc i))) (sym e)
-      ∙ part-same (end - (i + 1)) i x onward
-    where
-      onward : (skip : ℕ) → partsIn node isKnown all inner (end - (i + 1)) skip (suc i) ≡ partsTo end (i + 1 + skip)
-      onward skip =
-          let l : end - (i + 1) - skip ≡ end - (i + 1 + skip) = omega arith in
-          let j : suc i + skip ≡ i + 1 + skip = omega arith in
-          parts-skipped (end - (i + 1)) skip (suc i) ∙ rw (l, j)
+      ∙ part-same (end - (i + 1)) i x (λ skip. parts-skipped (end - (i + 1)) skip (suc i) (end - (i + 1 + skip)) (i + 1 + skip) (omega arith) (omega arith))
 
   -- Behind the last there is no part that fails of all, and none that holds of some.
   pub parts-past : (end i : ℕ) → end ≤ i → partsTo end i ≡ all
