@@ -25,7 +25,7 @@ use Rattle.routine.proofs.SizeLaws.{formula-length, atom-sets-length, nodes-len
 use Rattle.routine.proofs.TableLaws.{noStates, noNode}
 use Rattle.progression.specs.declared.place.Place.{Place}
 use Rattle.progression.specs.Machine.{knownBy, atomHolds, joined, partsHold, behind, holdsAt, atNode}
-use Rattle.progression.proofs.MachineLaws.{goesTo, goes-by, partsTo, parts-past, parts-atom, parts-alike, parts-other, parts-to, partsLeft, none-left, joined-none, holds-by}
+use Rattle.progression.proofs.MachineLaws.{goesTo, goes-by, parts-past, parts-atom, parts-alike, parts-other, parts-to, partsLeft, none-left, joined-none, holds-by}
 use Rattle.progression.proofs.PolicyLaws.{leftOf, allLeft}
 
 -- Items stand one behind the other from place i on, where `get` tells what stands at a place.
@@ -85,22 +85,6 @@ module _ (nodes sets : List ℕ) (set : States) where
   abbrev FormulaAt : (i k : ℕ) → Epistemic → Type 0
   FormulaAt i k f = Row (nodeAt nodes) noNode i (formulaNodes f k) × Row (setAt sets) noStates k (atomSets f)
 
-  -- Where two parts stand behind a node.
-  parts : (f g : Epistemic) (i k : ℕ) (x : Node) → Row (nodeAt nodes) noNode i (x ∷ (formulaNodes f k ++ formulaNodes g (k + atoms f)))
-      → Row (setAt sets) noStates k (atomSets f ++ atomSets g) → FormulaAt (i + 1) k f × FormulaAt (i + 1 + formulaSize f) (k + atoms f) g
-  parts f g i k x r s =
-      let behind : Row (nodeAt nodes) noNode (i + 1) (formulaNodes f k ++ formulaNodes g (k + atoms f)) =
-      row-right (nodeAt nodes) noNode i (x ∷ []) (formulaNodes f k ++ formulaNodes g (k + atoms f)) (i + 1) (omega arith) r in (
-        (
-          row-left (nodeAt nodes) noNode (i + 1) (formulaNodes f k) _ behind,
-          row-left (setAt sets) noStates k (atomSets f) _ s,
-        ),
-        (
-          row-right (nodeAt nodes) noNode (i + 1) (formulaNodes f k) _ (i + 1 + formulaSize f) (omega (arith, formula-length f k)) behind,
-          row-right (setAt sets) noStates k (atomSets f) (atomSets g) (k + atoms f) (omega (arith, atom-sets-length f)) s,
-        ),
-      )
-
   abbrev sat : Epistemic → Bool
   sat = satisfies (members set)
 
@@ -122,13 +106,31 @@ module _ (nodes sets : List ℕ) (set : States) where
       ∙ ap (joined all (sat f))
       (q all stop (omega arith) ∙ ap (joined all (sat g)) (parts-past (nodeAt nodes) (knownBy sets set) all (partsHold nodes (knownBy sets set) (left - 1) (not all)) stop _ (omega arith)) ∙ joined-none all (sat g))
 
-  -- So are they behind a node that joins them, in the same way as the parts around it or the other way.
-  join-part : (left i : ℕ) (f g : Epistemic) (both : Bool) → nodeAt nodes i ≡ Node.Join both (formulaSize f + formulaSize g) → 0 < left - 1
-      → IsPart left (i + 1) f → IsPart left (i + 1 + formulaSize f) g → IsPart (left - 1) (i + 1) f → IsPart (left - 1) (i + 1 + formulaSize f) g
+  -- It is one wherever it stands, if its levels are left.
+  abbrev AlwaysPart : Epistemic → Type 0
+  AlwaysPart f = (left i k : ℕ) → Levels f left → FormulaAt i k f → IsPart left i f
+
+  -- If two formulas are, so is what joins them, in the same way as the parts around it or the other way.
+  join-part : (both : Bool) (f g : Epistemic) → AlwaysPart f → AlwaysPart g → (left i k : ℕ) → Levels f (left - 1) → Levels g (left - 1)
+      → Row (nodeAt nodes) noNode i (Node.Join both (formulaSize f + formulaSize g) ∷ (formulaNodes f k ++ formulaNodes g (k + atoms f))) → Row (setAt sets) noStates k (atomSets f ++ atomSets g)
       → (all : Bool) (stop : ℕ) → i + suc (formulaSize f + formulaSize g) ≤ stop
       → partsOf left all stop i ≡ joined all (joined both (sat f) (sat g)) (partsOf left all stop (i + suc (formulaSize f + formulaSize g)))
-  join-part left i f g both e h p q p′ q′ all stop l = go (Bool·beq both all) refl
+  join-part both f g p q left i k d₁ d₂ r s all stop l = go (Bool·beq both all) refl
     where
+      here : Node.Join both (formulaSize f + formulaSize g) ≡ nodeAt nodes i
+      here = sym (row-first (nodeAt nodes) noNode i _ (formulaNodes f k ++ formulaNodes g (k + atoms f)) r)
+
+      later : Row (nodeAt nodes) noNode (i + 1) (formulaNodes f k ++ formulaNodes g (k + atoms f))
+      later = row-right (nodeAt nodes) noNode i (Node.Join both (formulaSize f + formulaSize g) ∷ []) (formulaNodes f k ++ formulaNodes g (k + atoms f)) (i + 1) (omega arith) r
+
+      first : (left : ℕ) → Levels f left → IsPart left (i + 1) f
+      first left d = p left (i + 1) k d (row-left (nodeAt nodes) noNode (i + 1) (formulaNodes f k) _ later, row-left (setAt sets) noStates k (atomSets f) _ s)
+
+      second : (left : ℕ) → Levels g left → IsPart left (i + 1 + formulaSize f) g
+      second left d =
+          q left (i + 1 + formulaSize f) (k + atoms f) d
+          (row-right (nodeAt nodes) noNode (i + 1) (formulaNodes f k) _ (i + 1 + formulaSize f) (omega (arith, formula-length f k)) later, row-right (setAt sets) noStates k (atomSets f) (atomSets g) (k + atoms f) (omega (arith, atom-sets-length f)) s)
+
       last : i + 1 + formulaSize f + formulaSize g ≡ i + suc (formulaSize f + formulaSize g)
       last = omega arith
 
@@ -137,36 +139,28 @@ module _ (nodes sets : List ℕ) (set : States) where
 
       go : (b : Bool) → Bool·beq both all ≡ b → partsOf left all stop i ≡ joined all (joined both (sat f) (sat g)) (partsOf left all stop (i + suc (formulaSize f + formulaSize g)))
       go true t =
-          parts-alike (nodeAt nodes) (knownBy sets set) all (partsHold nodes (knownBy sets set) (left - 1) (not all)) stop i (omega arith) both (formulaSize f + formulaSize g) (sym e) t
-          ∙ p all stop (omega arith)
-          ∙ ap (joined all (sat f)) (q all stop (omega arith) ∙ ap (λ (j : ℕ). joined all (sat g) (partsOf left all stop j)) last)
+          parts-alike (nodeAt nodes) (knownBy sets set) all (partsHold nodes (knownBy sets set) (left - 1) (not all)) stop i (omega arith) both (formulaSize f + formulaSize g) here t
+          ∙ first left (more-levels f left d₁) all stop (omega arith)
+          ∙ ap (joined all (sat f)) (second left (more-levels g left d₂) all stop (omega arith) ∙ ap (λ (j : ℕ). joined all (sat g) (partsOf left all stop j)) last)
           ∙ joined-twice both all (sat f) (sat g) (partsOf left all stop (i + suc (formulaSize f + formulaSize g))) t
       go false t =
           let m : min (formulaSize f + formulaSize g) (stop - (i + 1)) ≡ formulaSize f + formulaSize g = omega arith in
-          parts-other (nodeAt nodes) (knownBy sets set) all (partsHold nodes (knownBy sets set) (left - 1) (not all)) stop i (omega arith) both (formulaSize f + formulaSize g) (sym e) t
+          parts-other (nodeAt nodes) (knownBy sets set) all (partsHold nodes (knownBy sets set) (left - 1) (not all)) stop i (omega arith) both (formulaSize f + formulaSize g) here t
           ∙ ap (λ (x : Bool). joined all x (partsOf left all stop (i + 1 + (formulaSize f + formulaSize g))))
-          (ap (λ (n : ℕ). partsHold nodes (knownBy sets set) (left - 1) (not all) n (i + 1)) m ∙ two-hold (left - 1) (i + 1) f g h p′ q′ (not all) ∙ ap (λ (x : Bool). joined x (sat f) (sat g)) (differing both all t))
+          (ap (λ (n : ℕ). partsHold nodes (knownBy sets set) (left - 1) (not all) n (i + 1)) m ∙ two-hold (left - 1) (i + 1) f g (some-level f (left - 1) d₁) (first (left - 1) d₁) (second (left - 1) d₂) (not all) ∙ ap (λ (x : Bool). joined x (sat f) (sat g)) (differing both all t))
           ∙ ap (λ (j : ℕ). joined all (joined both (sat f) (sat g)) (partsOf left all stop j)) behind
 
-  -- A formula of at most so many levels is a part.
-  is-part : (f : Epistemic) (left i k : ℕ) → Levels f left → FormulaAt i k f → IsPart left i f
+  -- So every formula is.
+  is-part : (f : Epistemic) → AlwaysPart f
   unfolding formulaNodes formulaSize atomSets Levels satisfies atomHolds joined knownBy
-  is-part (known f) left i k d (r, s) all stop l =
-      parts-atom (nodeAt nodes) (knownBy sets set) all (partsHold nodes (knownBy sets set) (left - 1) (not all)) stop i (omega arith) true k (sym (row-first (nodeAt nodes) noNode i _ [] r))
-      ∙ ap (λ (x : Bool). joined all x (partsOf left all stop (i + 1))) (table-known (setAt sets) set k f (row-first (setAt sets) noStates k _ [] s))
-  is-part (not-known f) left i k d (r, s) all stop l =
-      parts-atom (nodeAt nodes) (knownBy sets set) all (partsHold nodes (knownBy sets set) (left - 1) (not all)) stop i (omega arith) false k (sym (row-first (nodeAt nodes) noNode i _ [] r))
-      ∙ ap (λ (x : Bool). joined all (not x) (partsOf left all stop (i + 1))) (table-known (setAt sets) set k f (row-first (setAt sets) noStates k _ [] s))
-  is-part (all-of f g) left i k d (r, s) all stop l =
-      let p = parts f g i k _ r s in
-      join-part left i f g true (row-first (nodeAt nodes) noNode i _ (formulaNodes f k ++ formulaNodes g (k + atoms f)) r) (some-level f (left - 1) (d .1))
-      (is-part f left (i + 1) k (more-levels f left (d .1)) (p .0)) (is-part g left (i + 1 + formulaSize f) (k + atoms f) (more-levels g left (d .2)) (p .1))
-      (is-part f (left - 1) (i + 1) k (d .1) (p .0)) (is-part g (left - 1) (i + 1 + formulaSize f) (k + atoms f) (d .2) (p .1)) all stop l
-  is-part (any-of f g) left i k d (r, s) all stop l =
-      let p = parts f g i k _ r s in
-      join-part left i f g false (row-first (nodeAt nodes) noNode i _ (formulaNodes f k ++ formulaNodes g (k + atoms f)) r) (some-level f (left - 1) (d .1))
-      (is-part f left (i + 1) k (more-levels f left (d .1)) (p .0)) (is-part g left (i + 1 + formulaSize f) (k + atoms f) (more-levels g left (d .2)) (p .1))
-      (is-part f (left - 1) (i + 1) k (d .1) (p .0)) (is-part g (left - 1) (i + 1 + formulaSize f) (k + atoms f) (d .2) (p .1)) all stop l
+  is-part (known f) left i k d at = λ all stop l.
+      parts-atom (nodeAt nodes) (knownBy sets set) all (partsHold nodes (knownBy sets set) (left - 1) (not all)) stop i (omega arith) true k (sym (row-first (nodeAt nodes) noNode i _ [] (at .0)))
+      ∙ ap (λ (x : Bool). joined all x (partsOf left all stop (i + 1))) (table-known (setAt sets) set k f (row-first (setAt sets) noStates k _ [] (at .1)))
+  is-part (not-known f) left i k d at = λ all stop l.
+      parts-atom (nodeAt nodes) (knownBy sets set) all (partsHold nodes (knownBy sets set) (left - 1) (not all)) stop i (omega arith) false k (sym (row-first (nodeAt nodes) noNode i _ [] (at .0)))
+      ∙ ap (λ (x : Bool). joined all (not x) (partsOf left all stop (i + 1))) (table-known (setAt sets) set k f (row-first (setAt sets) noStates k _ [] (at .1)))
+  is-part (all-of f g) left i k d at = join-part true f g (is-part f) (is-part g) left i k (d .1) (d .2) (at .0) (at .1)
+  is-part (any-of f g) left i k d at = join-part false f g (is-part f) (is-part g) left i k (d .1) (d .2) (at .0) (at .1)
 
   -- Its first node tells how many it has.
   size-told : (f : Epistemic) (i k : ℕ) → FormulaAt i k f → suc (behind (nodeAt nodes i)) ≡ formulaSize f
