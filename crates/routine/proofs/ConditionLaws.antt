@@ -7,7 +7,7 @@ use native.Mathlib.Omega.{arith}
 use lib.ListN.{length}
 use Rattle.format.specs.Syntax.{Objective, Epistemic, known, not-known, all-of, any-of}
 use Rattle.format.specs.Format.{Read, got, fault, objective, EpistemicNode, known-node, not-known-node, all-of-node, any-of-node, epistemicNode, epistemicBehind, epistemic, ofSheet, mostBytes, deepest}
-use Rattle.format.proofs.ReaderLaws.{sheet-short, epistemic-split, known-split, not-known-split, all-of-split, any-of-split}
+use Rattle.format.proofs.ReaderLaws.{sheet-short, Pair, epistemic-split, known-split, not-known-split, all-of-split, any-of-split}
 use Rattle.format.specs.Standing.{ObjectiveAt}
 use Rattle.format.proofs.FormulaLaws.{objective-levels}
 use Rattle.routine.specs.declared.memory.Node.{Node}
@@ -28,14 +28,9 @@ module _ (bytes : List ℕ) (n left : ℕ) where
 
   -- A formula of two parts that are read from p to q, with one level less.
   pub record PairAt (make : Epistemic → Epistemic → Epistemic) (f : Epistemic) (p q : ℕ) : Type 0 where
-    pub first : Epistemic
-    pub second : Epistemic
-    pub middle : ℕ
-    pub is : f ≡ make first second
-    pub many : formulaSize f ≡ suc (formulaSize first + formulaSize second)
-    pub sets-many : atoms f ≡ atoms first + atoms second
-    pub first-read : epistemic n (left - 1) bytes p ≡ got first middle
-    pub second-read : epistemic n (left - 1) bytes middle ≡ got second q
+    pub parts : Pair (objective n false (left - 1)) (epistemic n (left - 1)) bytes p f q make
+    pub many : formulaSize f ≡ suc (formulaSize (parts .first) + formulaSize (parts .second))
+    pub sets-many : atoms f ≡ atoms (parts .first) + atoms (parts .second)
     pub some : 1 ≤ left
 
   -- The parts of a formula that ends at q, by what its first node is.
@@ -54,30 +49,10 @@ module _ (bytes : List ℕ) (n : ℕ) where
   parts-behind left l some r f q not-known-node e = let w = not-known-split _ _ bytes r f q e in record { inner = w .0; is = sym (w .2); stands = objective-levels n false (left - 1) deepest (omega arith) bytes r (w .0) q (w .1) }
   parts-behind left l some r f q all-of-node e =
       let w = all-of-split _ _ bytes r f q e in
-      record {
-        first = w .first;
-        second = w .second;
-        middle = w .middle;
-        is = sym (w .is);
-        many = unfold formulaSize in (ap formulaSize (sym (w .is)));
-        sets-many = unfold atoms in (ap atoms (sym (w .is)));
-        first-read = w .first-read;
-        second-read = w .second-read;
-        some = some;
-      }
+      record { parts = w; many = unfold formulaSize in (ap formulaSize (sym (w .is))); sets-many = unfold atoms in (ap atoms (sym (w .is))); some = some }
   parts-behind left l some r f q any-of-node e =
       let w = any-of-split _ _ bytes r f q e in
-      record {
-        first = w .first;
-        second = w .second;
-        middle = w .middle;
-        is = sym (w .is);
-        many = unfold formulaSize in (ap formulaSize (sym (w .is)));
-        sets-many = unfold atoms in (ap atoms (sym (w .is)));
-        first-read = w .first-read;
-        second-read = w .second-read;
-        some = some;
-      }
+      record { parts = w; many = unfold formulaSize in (ap formulaSize (sym (w .is))); sets-many = unfold atoms in (ap atoms (sym (w .is))); some = some }
 
   -- The parts of a formula that is read, by what `epistemic_node` answers.
   pub formula-parts : (left at : ℕ) {h : Read EpistemicNode} → length bytes ≤ mostBytes → left ≤ deepest → h ≡ ofSheet epistemicNode bytes at
@@ -86,6 +61,11 @@ module _ (bytes : List ℕ) (n : ℕ) where
       let w = epistemic-split n bytes at left f q r in
       subst (λ x. Parts bytes n left x f q) (sheet-short epistemicNode bytes at short (w .3) ∙ sym e) (parts-behind left l (w .0) (w .2) f q (w .1) (w .4))
 
+-- An objective formula is known, or isn't.
+abbrev atomOf : (positive : Bool) → Objective → Epistemic
+atomOf true = known
+atomOf false = not-known
+
 -- Where the parts of a node are written: behind it.
 abbrev pub partsFrom : Filled → (p : ℕ) → Filled
 partsFrom from p = record { at = p; node = from .node + 1; set = from .set; acts = from .acts }
@@ -93,17 +73,10 @@ partsFrom from p = record { at = p; node = from .node + 1; set = from .set; acts
 module _ (bytes : List ℕ) (n left : ℕ) (from : Filled) where
   -- An atom is one node and one set.
   module _ (f : Epistemic) (p q : ℕ) (nodes sets : List ℕ) {nodes′ sets′ : List ℕ} {r : Filled} where
-    pub laid-known : AtomFills bytes n p from (Node.Atom true (from .set)) nodes nodes′ sets sets′ r → AtomAt bytes n left known f p q → FormulaWritten from f q nodes nodes′ sets sets′ r
+    pub laid-atom : (positive : Bool) → AtomFills bytes n p from (Node.Atom positive (from .set)) nodes nodes′ sets sets′ r → AtomAt bytes n left (atomOf positive) f p q → FormulaWritten from f q nodes nodes′ sets sets′ r
     unfolding atoms atomSets formulaSize formulaNodes
-    laid-known fills h =
-        let a = fills (h .inner) q (h .stands) in
-        rw (h .is) (a .0, a .1 ∙ ap (write nodes (3 * from .node)) (sym (spread-one cells _)), a .2 ∙ ap (write sets (4 * from .set)) (sym (spread-one words _)))
-
-    pub laid-not-known : AtomFills bytes n p from (Node.Atom false (from .set)) nodes nodes′ sets sets′ r → AtomAt bytes n left not-known f p q → FormulaWritten from f q nodes nodes′ sets sets′ r
-    unfolding atoms atomSets formulaSize formulaNodes
-    laid-not-known fills h =
-        let a = fills (h .inner) q (h .stands) in
-        rw (h .is) (a .0, a .1 ∙ ap (write nodes (3 * from .node)) (sym (spread-one cells _)), a .2 ∙ ap (write sets (4 * from .set)) (sym (spread-one words _)))
+    laid-atom true fills h = let a = fills (h .inner) q (h .stands) in rw (h .is) (a .0, spread-one cells _ nodes (3 * from .node) (a .1), spread-one words _ sets (4 * from .set) (a .2))
+    laid-atom false fills h = let a = fills (h .inner) q (h .stands) in rw (h .is) (a .0, spread-one cells _ nodes (3 * from .node) (a .1), spread-one words _ sets (4 * from .set) (a .2))
 
   -- Of two parts the first is written behind where the node goes, the second behind the first, and then the node.
   module _ (first second : Epistemic) (p middle q : ℕ) (first-read : epistemic n (left - 1) bytes p ≡ got first middle) (second-read : epistemic n (left - 1) bytes middle ≡ got second q) where
@@ -126,14 +99,14 @@ module _ (bytes : List ℕ) (n left : ℕ) (from : Filled) where
     size-is : {y : Filled} → y ≡ secondBehind → y .node - (from .node + 1) ≡ formulaSize first + formulaSize second
     size-is is = omega (arith, ap (λ (v : Filled). v .node) is)
 
-    laid-pair : (node : Node) (nodes nodes₁ nodes₂ sets sets₁ sets₂ : List ℕ) {nodes₃ : List ℕ} {x y : Filled}
+    laid-pair : (all : Bool) (nodes nodes₁ nodes₂ sets sets₁ sets₂ : List ℕ) {nodes₃ : List ℕ} {x y : Filled}
         → FormulaFills bytes n (left - 1) (partsFrom from p) nodes nodes₁ sets sets₁ x
         → FormulaFills bytes n (left - 1) x nodes₁ nodes₂ sets₁ sets₂ y
-        → nodes₃ ≡ write nodes₂ (3 * from .node) (cells node)
+        → nodes₃ ≡ write nodes₂ (3 * from .node) (cells (Node.Join all (y .node - (from .node + 1))))
         → (y ≡ record { at = q; node = from .node + suc (formulaSize first + formulaSize second); set = from .set + (atoms first + atoms second); acts = from .acts })
-        × (nodes₃ ≡ write nodes (3 * from .node) (flatMap cells (node ∷ (formulaNodes first (from .set) ++ formulaNodes second (from .set + atoms first)))))
+        × (nodes₃ ≡ write nodes (3 * from .node) (flatMap cells (Node.Join all (formulaSize first + formulaSize second) ∷ (formulaNodes first (from .set) ++ formulaNodes second (from .set + atoms first)))))
         × (sets₂ ≡ write sets (4 * from .set) (flatMap words (atomSets first ++ atomSets second)))
-    laid-pair node nodes nodes₁ nodes₂ sets sets₁ sets₂ {nodes₃ = nodes₃} earlier later put =
+    laid-pair all nodes nodes₁ nodes₂ sets sets₁ sets₂ {nodes₃ = nodes₃} earlier later put =
         let fs = formulaNodes first (from .set) in
         let gs = formulaNodes second (from .set + atoms first) in
         let a = earlier first middle first-read in
@@ -141,8 +114,9 @@ module _ (bytes : List ℕ) (n left : ℕ) (from : Filled) where
         let i : from .node + 1 + formulaSize first + formulaSize second ≡ from .node + suc (formulaSize first + formulaSize second) = omega arith in
         let j : from .set + atoms first + atoms second ≡ from .set + (atoms first + atoms second) = omega arith in (
           b .0 ∙ rw (i, j),
-          node-before nodes nodes₂ nodes₃ (from .node) node (fs ++ gs)
-              (spread-on 3 cells cells-three nodes nodes₁ nodes₂ (from .node + 1) (from .node + 1 + formulaSize first) fs gs (a .1) (b .1) (ap (λ (v : ℕ). from .node + 1 + v) (formula-length first (from .set)))) put,
+          node-before nodes nodes₂ nodes₃ (from .node) (Node.Join all (formulaSize first + formulaSize second)) (fs ++ gs)
+              (spread-on 3 cells cells-three nodes nodes₁ nodes₂ (from .node + 1) (from .node + 1 + formulaSize first) fs gs (a .1) (b .1) (ap (λ (v : ℕ). from .node + 1 + v) (formula-length first (from .set))))
+              (put ∙ ap (λ (v : ℕ). write nodes₂ (3 * from .node) (cells (Node.Join all v))) (size-is (b .0))),
           spread-on 4 words words-four sets sets₁ sets₂ (from .set) (from .set + atoms first) (atomSets first) (atomSets second) (a .2) (b .2)
               (ap (λ (v : ℕ). from .set + v) (atom-sets-length first)),
         )
@@ -153,12 +127,8 @@ module _ (bytes : List ℕ) (n left : ℕ) (from : Filled) where
         → nodes₃ ≡ write nodes₂ (3 * from .node) (cells (Node.Join all (y .node - (from .node + 1))))
         → FormulaWritten from (pair all first second) q nodes nodes₃ sets sets₂ y
     unfolding pair atoms atomSets formulaSize formulaNodes
-    laid-parts true nodes nodes₁ nodes₂ sets sets₁ sets₂ earlier later put =
-        laid-pair (Node.Join true (formulaSize first + formulaSize second)) nodes nodes₁ nodes₂ sets sets₁ sets₂ earlier later
-        (put ∙ ap (λ (v : ℕ). write nodes₂ (3 * from .node) (cells (Node.Join true v))) (size-is (second-written nodes₁ nodes₂ sets₁ sets₂ (earlier first middle first-read .0) later .0)))
-    laid-parts false nodes nodes₁ nodes₂ sets sets₁ sets₂ earlier later put =
-        laid-pair (Node.Join false (formulaSize first + formulaSize second)) nodes nodes₁ nodes₂ sets sets₁ sets₂ earlier later
-        (put ∙ ap (λ (v : ℕ). write nodes₂ (3 * from .node) (cells (Node.Join false v))) (size-is (second-written nodes₁ nodes₂ sets₁ sets₂ (earlier first middle first-read .0) later .0)))
+    laid-parts true nodes nodes₁ nodes₂ sets sets₁ sets₂ earlier later put = laid-pair true nodes nodes₁ nodes₂ sets sets₁ sets₂ earlier later put
+    laid-parts false nodes nodes₁ nodes₂ sets sets₁ sets₂ earlier later put = laid-pair false nodes nodes₁ nodes₂ sets sets₁ sets₂ earlier later put
 
   -- There is room for a node and for a set; for two parts.
   module _ (room : FormulaRoom bytes n left from) where
@@ -168,12 +138,12 @@ module _ (bytes : List ℕ) (n left : ℕ) (from : Filled) where
     pub parts-room : {make : Epistemic → Epistemic → Epistemic} {p : ℕ} → PairAt bytes n left make (room .formula) p (room .next) → PartsRoom bytes n left from p
     parts-room h =
         record {
-          first = h .first;
-          second = h .second;
-          middle = h .middle;
+          first = h .parts .first;
+          second = h .parts .second;
+          middle = h .parts .middle;
           next = room .next;
-          first-read = h .first-read;
-          second-read = h .second-read;
+          first-read = h .parts .first-read;
+          second-read = h .parts .second-read;
           some = h .some;
           levels = room .levels;
           nodes-room = omega (arith, room .nodes-room, h .many);

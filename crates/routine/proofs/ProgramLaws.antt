@@ -109,7 +109,7 @@ module _ (bytes : List ℕ) (n : ℕ) (from : Filled) where
         rw (h .is) (
           b .0 ∙ rw (i, j),
           spread-on 3 cells cells-three nodes nodes₁ nodes₂ (from .node) (from .node + 1) (node ∷ []) (programNodes (h .rest) (from .set) (from .acts + 1))
-              (put ∙ ap (write nodes (3 * from .node)) (sym (spread-one cells node))) (b .1) refl,
+              (spread-one cells node nodes (3 * from .node) put) (b .1) refl,
           b .2,
         )
 
@@ -368,8 +368,8 @@ module _ (bytes : List ℕ) (n at k : ℕ) where
         let none : 0 + actionNodes program ≡ actionNodes program = omega arith in
         let last = Node.End (actionNodes program) in
         let ended : nodes₄ ≡ write nodes₃ (3 * (i + size program)) (flatMap cells (last ∷ [])) =
-        put₂ ∙ ap (λ (v : Filled). write nodes₃ (3 * v .node) (cells (Node.End (v .acts)))) (lp .0) ∙ ap (λ (v : ℕ). write nodes₃ (3 * (i + size program)) (cells (Node.End v))) none
-        ∙ ap (write nodes₃ (3 * (i + size program))) (sym (spread-one cells last)) in
+        spread-one cells last nodes₃ (3 * (i + size program))
+        (put₂ ∙ ap (λ (v : Filled). write nodes₃ (3 * v .node) (cells (Node.End (v .acts)))) (lp .0) ∙ ap (λ (v : ℕ). write nodes₃ (3 * (i + size program)) (cells (Node.End v))) none) in
         let later : nodes₄ ≡ write nodes₂ (3 * i) (flatMap cells (ps ++ (last ∷ []))) =
         spread-on 3 cells cells-three nodes₂ nodes₃ nodes₄ i (i + size program) ps (last ∷ []) (lp .1) ended (ap (λ (v : ℕ). i + v) (nodes-length program (k + atoms goal) 0)) in (
           spread-on 3 cells cells-three nodes nodes₂ nodes₄ 0 i (jump ∷ gs) (ps ++ (last ∷ [])) jumped later (omega (arith, formula-length goal k)),

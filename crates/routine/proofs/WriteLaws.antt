@@ -115,9 +115,9 @@ spread-append spread [] more = refl
 spread-append spread (a ∷ items) more =
     ap (λ (us : List ℕ). spread a ++ us) (spread-append spread items more) ∙ sym (append-assoc (spread a) (flatMap spread items) (flatMap spread more))
 
-pub spread-one : {A : Type 0} (spread : A → List ℕ) (a : A) → flatMap spread (a ∷ []) ≡ spread a
+pub spread-one : {A : Type 0} (spread : A → List ℕ) (a : A) (xs : List ℕ) (i : ℕ) {us : List ℕ} → us ≡ write xs i (spread a) → us ≡ write xs i (flatMap spread (a ∷ []))
 unfolding flatMap
-spread-one spread a = append-nil (spread a)
+spread-one spread a xs i e = e ∙ ap (write xs i) (sym (append-nil (spread a)))
 
 -- Items that are spread, written one part behind the other: the first part first, or the second part first.
 module _ {A : Type 0} (w : ℕ) (spread : A → List ℕ) (wide : (a : A) → length (spread a) ≡ w) (xs us vs : List ℕ) (i j : ℕ) (items more : List A) where
@@ -137,4 +137,4 @@ module _ {A : Type 0} (w : ℕ) (spread : A → List ℕ) (wide : (a : A) → le
 pub node-before : (nodes nodes₁ nodes₂ : List ℕ) (i : ℕ) (node : Node) (later : List Node) → nodes₁ ≡ write nodes (3 * (i + 1)) (flatMap cells later) → nodes₂ ≡ write nodes₁ (3 * i) (cells node)
     → nodes₂ ≡ write nodes (3 * i) (flatMap cells (node ∷ later))
 node-before nodes nodes₁ nodes₂ i node later a b =
-    spread-back 3 cells cells-three nodes nodes₁ nodes₂ i (i + 1) (node ∷ []) later a (b ∙ ap (write nodes₁ (3 * i)) (sym (spread-one cells node))) refl
+    spread-back 3 cells cells-three nodes nodes₁ nodes₂ i (i + 1) (node ∷ []) later a (spread-one cells node nodes₁ (3 * i) b) refl

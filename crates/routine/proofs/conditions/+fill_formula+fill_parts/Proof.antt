@@ -1,6 +1,7 @@
 -- `routine::conditions::fill_formula` and `fill_parts` meet their contracts. The measure is twice the levels left, and one more for a formula. Assumes nothing.
 use Prim.Native.Nat.{ℕ, _+_, _*_, _<_}
 use mathlib.Core.Path.{_≡_, ap, sym, _∙_}
+use mathlib.Core.Bool.{true, false}
 use native.Mathlib.Omega.{arith}
 use borrow.Author.Needs.{needs}
 use borrow.Fn.Kinds.{In}
@@ -11,7 +12,7 @@ use Rattle.format.specs.Format.{got, epistemic}
 use Rattle.reader.specs.Answers.{epistemicNodeRead}
 use Rattle.routine.specs.Memory.{Small}
 use Rattle.routine.specs.Filling.{pair, behindFormula}
-use Rattle.routine.proofs.ConditionLaws.{AtomAt, PairAt, partsFrom, formula-parts, node-room, parts-room, join-room, first-room, second-room, size-inside, size-small, laid-known, laid-not-known, second-written, laid-parts}
+use Rattle.routine.proofs.ConditionLaws.{AtomAt, PairAt, partsFrom, formula-parts, node-room, parts-room, join-room, first-room, second-room, size-inside, size-small, laid-atom, second-written, laid-parts}
 use Rattle.routine.proofs.conditions.fill_formula.Reads as whole
 use Rattle.routine.proofs.conditions.fill_formula.Kinds as whole-kinds
 use Rattle.routine.proofs.conditions.+fill_formula+fill_parts.Lts-fill_formula as whole-lts
@@ -132,18 +133,18 @@ module _ (t : ℕ) where
       (sym (ap epistemicNodeRead (c .before .r .given .1)) ∙ c .before .before .before .epistemic-node .ensures) (c .before .before .before .before .before .pre .1 .1 .formula) (c .before .before .before .before .before .pre .1 .1 .next) (c .before .before .before .before .before .pre .1 .1 .read))
 
   whole-returns-2 : whole-lts.Need-returns-2 (whole-calls t) (whole-given t) whole.Post
-  whole-returns-2 c f q e = laid-known _ _ _ (c .before .before .before .before .before .before .before .before .args .from) f _ q _ _ (c .fill-atom .ensures) (known-at (c .before .before .before) f q e)
+  whole-returns-2 c f q e = laid-atom _ _ _ (c .before .before .before .before .before .before .before .before .args .from) f _ q _ _ true (c .fill-atom .ensures) (known-at (c .before .before .before) f q e)
 
   whole-returns-3 : whole-lts.Need-returns-3 (whole-calls t) (whole-given t) whole.Post
-  whole-returns-3 c f q e = laid-not-known _ _ _ (c .before .before .before .before .before .before .before .before .args .from) f _ q _ _ (c .fill-atom2 .ensures) (not-known-at (c .before .before .before) f q e)
+  whole-returns-3 c f q e = laid-atom _ _ _ (c .before .before .before .before .before .before .before .before .args .from) f _ q _ _ false (c .fill-atom2 .ensures) (not-known-at (c .before .before .before) f q e)
 
   whole-returns-4 : whole-lts.Need-returns-4 (whole-calls t) (whole-given t) whole.Post
   unfolding pair
-  whole-returns-4 c f q e = let h = all-of-at (c .before .before .before) f q e in rw (h .is) (c .fill-parts .ensures (h .first) (h .second) (h .middle) q (h .first-read) (h .second-read))
+  whole-returns-4 c f q e = let h = all-of-at (c .before .before .before) f q e .parts in rw (sym (h .is)) (c .fill-parts .ensures (h .first) (h .second) (h .middle) q (h .first-read) (h .second-read))
 
   whole-returns-5 : whole-lts.Need-returns-5 (whole-calls t) (whole-given t) whole.Post
   unfolding pair
-  whole-returns-5 c f q e = let h = any-of-at (c .before .before .before) f q e in rw (h .is) (c .fill-parts2 .ensures (h .first) (h .second) (h .middle) q (h .first-read) (h .second-read))
+  whole-returns-5 c f q e = let h = any-of-at (c .before .before .before) f q e .parts in rw (sym (h .is)) (c .fill-parts2 .ensures (h .first) (h .second) (h .middle) q (h .first-read) (h .second-read))
 
   -- The first part is written.
   first-is : (c : parts-lts.After-fill-formula (parts-calls t) (parts-given t) parts.Post) → let d = c .before .before .before .before .before in
