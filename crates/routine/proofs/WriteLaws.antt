@@ -60,7 +60,7 @@ module _ (xs us vs : List ℕ) (i j : ℕ) (ys zs : List ℕ) where
   written-on a b e =
       b ∙ ap (λ (w : List ℕ). write w j zs) a ∙ ap (λ (k : ℕ). write (write xs i ys) k zs) (sym e) ∙ sym (write-append xs i ys zs)
 
-  pub written-back : us ≡ write xs j zs → vs ≡ write us i ys → i + length ys ≡ j → vs ≡ write xs i (ys ++ zs)
+  written-back : us ≡ write xs j zs → vs ≡ write us i ys → i + length ys ≡ j → vs ≡ write xs i (ys ++ zs)
   written-back a b e =
       b ∙ ap (λ (w : List ℕ). write w i ys) a ∙ write-prepend xs i j ys zs (omega (arith, e))
       ∙ ap (λ (k : ℕ). write (write xs i ys) k zs) (sym e) ∙ sym (write-append xs i ys zs)
@@ -127,7 +127,7 @@ module _ {A : Type 0} (w : ℕ) (spread : A → List ℕ) (wide : (a : A) → le
       written-on xs us vs (w * i) (w * j) (flatMap spread items) (flatMap spread more) a b (spread-behind w spread wide items i j e)
       ∙ ap (write xs (w * i)) (sym (spread-append spread items more))
 
-  pub spread-back : us ≡ write xs (w * j) (flatMap spread more) → vs ≡ write us (w * i) (flatMap spread items) → i + length items ≡ j
+  spread-back : us ≡ write xs (w * j) (flatMap spread more) → vs ≡ write us (w * i) (flatMap spread items) → i + length items ≡ j
       → vs ≡ write xs (w * i) (flatMap spread (items ++ more))
   spread-back a b e =
       written-back xs us vs (w * i) (w * j) (flatMap spread items) (flatMap spread more) a b (spread-behind w spread wide items i j e)

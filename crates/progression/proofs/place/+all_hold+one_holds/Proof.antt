@@ -1,6 +1,6 @@
 -- `progression::place::all_hold` and `one_holds` meet their contracts. Each loop's invariant: the parts from the first node on hold as those from node i on. The measure
 -- of the recursion is the levels left. Assumes nothing.
-use Prim.Native.Nat.{ℕ, _+_, _-_, _<_}
+use Prim.Native.Nat.{ℕ, _-_, _<_}
 use mathlib.Core.Path.{_≡_, sym, ap, subst, _∙_}
 use mathlib.Core.Bool.{Bool, true, false}
 use mathlib.Core.List.{List}
@@ -9,7 +9,6 @@ use borrow.Author.Needs.{needs}
 use borrow.Author.Tests.{not-true, not-false}
 use borrow.Fn.Kinds.{In}
 use borrow.Fn.PlainCycle.{Measures, is, falls, and}
-use denote.Ref.{now}
 use Rattle.states.specs.declared.States.{States}
 use Rattle.states.specs.Sets.{ofWords}
 use Rattle.states.proofs.States.of_words.Reads as of-words

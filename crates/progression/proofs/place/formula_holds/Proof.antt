@@ -1,8 +1,8 @@
 -- `progression::place::formula_holds` meets its contract: by the law of the node that stands there. Assumes nothing.
-use Prim.Native.Nat.{ℕ, _+_, _-_, _<_}
-use mathlib.Core.Path.{_≡_, sym, ap, subst, _∙_}
-use mathlib.Core.Bool.{Bool, true}
-use mathlib.Core.Logic.{_⊎_, ⊎-elim, inl, inr}
+use Prim.Native.Nat.{_+_, _-_, _<_}
+use mathlib.Core.Path.{sym, ap, subst, _∙_}
+use mathlib.Core.Bool.{true}
+use mathlib.Core.Logic.{⊎-elim, inl, inr}
 use native.Mathlib.Omega.{arith}
 use borrow.Author.Needs.{needs}
 use denote.Ref.{now}
@@ -10,7 +10,6 @@ use Rattle.states.specs.declared.States.{States}
 use Rattle.states.specs.Sets.{ofWords}
 use Rattle.states.proofs.SetLaws.{words-back}
 use Rattle.format.specs.Format.{deepest}
-use Rattle.routine.specs.declared.memory.Node.{Node}
 use Rattle.routine.specs.Memory.{Small}
 use Rattle.progression.specs.Machine.{knownBy, partsHold}
 use Rattle.progression.proofs.MachineLaws.{atom-holds, join-holds, join-inside, no-formula}
