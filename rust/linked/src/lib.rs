@@ -156,6 +156,28 @@ extern "C" {
         trace_length: usize,
         verdict: &mut [u64; 3],
     ) -> u8;
+
+    fn before_load(
+        bytes: *const u8,
+        length: usize,
+        sheet: &mut [u8; SHEET],
+        replies: &mut [u8; REPLIES],
+        lengths: &mut [usize; 2],
+    ) -> u8;
+
+    fn before_next(
+        sheet: &[u8; SHEET],
+        replies: &[u8; REPLIES],
+        lengths: &[usize; 2],
+        told: &mut [usize; 2],
+    ) -> u8;
+
+    fn before_report(
+        sheet: &[u8; SHEET],
+        replies: &mut [u8; REPLIES],
+        lengths: &mut [usize; 2],
+        reply: u8,
+    ) -> u8;
 }
 
 /// `recovery_read`, or that of an earlier commit.
@@ -164,6 +186,23 @@ type LinkedRead = unsafe extern "C" fn(*const u8, usize) -> u8;
 /// `recovery_verify`, or that of an earlier commit.
 type LinkedVerify =
     unsafe extern "C" fn(*const u8, usize, u32, *mut u8, usize, &mut [u64; 3]) -> u8;
+
+/// `recovery_load`, or that of an earlier commit.
+type LinkedLoad = unsafe extern "C" fn(
+    *const u8,
+    usize,
+    &mut [u8; SHEET],
+    &mut [u8; REPLIES],
+    &mut [usize; 2],
+) -> u8;
+
+/// `recovery_next`, or that of an earlier commit.
+type LinkedNext =
+    unsafe extern "C" fn(&[u8; SHEET], &[u8; REPLIES], &[usize; 2], &mut [usize; 2]) -> u8;
+
+/// `recovery_report`, or that of an earlier commit.
+type LinkedReport =
+    unsafe extern "C" fn(&[u8; SHEET], &mut [u8; REPLIES], &mut [usize; 2], u8) -> u8;
 
 /// The memory that is lent for a sheet's tables.
 #[derive(Clone, Debug, PartialEq, Eq)]
@@ -427,9 +466,19 @@ pub fn print(bytes: &[u8], out: &mut [u8; LINES]) -> usize {
 /// Writes the record of a sheet with no replies and gives 0; for a refused sheet
 /// it writes the record of zeros and gives the number of the refusal.
 pub fn load(bytes: &[u8], record: &mut Record) -> u8 {
+    load_by(recovery_load, bytes, record)
+}
+
+/// The same by the library of an earlier commit.
+#[cfg(feature = "before")]
+pub fn load_before(bytes: &[u8], record: &mut Record) -> u8 {
+    load_by(before_load, bytes, record)
+}
+
+fn load_by(load: LinkedLoad, bytes: &[u8], record: &mut Record) -> u8 {
     // SAFETY: as above.
     unsafe {
-        recovery_load(
+        load(
             bytes.as_ptr(),
             bytes.len(),
             &mut record.sheet,
@@ -439,7 +488,7 @@ pub fn load(bytes: &[u8], record: &mut Record) -> u8 {
     }
 }
 
-/// The same, and writes the tables of an accepted sheet.
+/// `load`, and writes the tables of an accepted sheet.
 pub fn load_in(bytes: &[u8], record: &mut Record, tables: &mut Tables) -> u8 {
     // SAFETY: as above.
     unsafe {
@@ -459,11 +508,21 @@ pub fn load_in(bytes: &[u8], record: &mut Record, tables: &mut Tables) -> u8 {
 /// Writes 0 and the action to do, or 1 and whether the goal holds at the end, 1 or
 /// 0, and gives 0; a bad record gives 31 and leaves `told` as it was.
 pub fn next(record: &Record, told: &mut [usize; 2]) -> u8 {
-    // SAFETY: as above.
-    unsafe { recovery_next(&record.sheet, &record.replies, &record.lengths, told) }
+    next_by(recovery_next, record, told)
 }
 
-/// The same in lent tables, which then are those of the record's sheet.
+/// The same by the library of an earlier commit.
+#[cfg(feature = "before")]
+pub fn next_before(record: &Record, told: &mut [usize; 2]) -> u8 {
+    next_by(before_next, record, told)
+}
+
+fn next_by(next: LinkedNext, record: &Record, told: &mut [usize; 2]) -> u8 {
+    // SAFETY: as above.
+    unsafe { next(&record.sheet, &record.replies, &record.lengths, told) }
+}
+
+/// `next` in lent tables, which then are those of the record's sheet.
 pub fn next_in(record: &Record, told: &mut [usize; 2], tables: &mut Tables) -> u8 {
     // SAFETY: as above.
     unsafe {
@@ -482,18 +541,22 @@ pub fn next_in(record: &Record, told: &mut [usize; 2], tables: &mut Tables) -> u
 /// Adds the reply and gives 0, or gives the number of the refusal and leaves the
 /// record as it was.
 pub fn report(record: &mut Record, reply: u8) -> u8 {
-    // SAFETY: as above.
-    unsafe {
-        recovery_report(
-            &record.sheet,
-            &mut record.replies,
-            &mut record.lengths,
-            reply,
-        )
-    }
+    report_by(recovery_report, record, reply)
 }
 
-/// The same in lent tables, which then are those of the record's sheet.
+/// The same by the library of an earlier commit.
+#[cfg(feature = "before")]
+pub fn report_before(record: &mut Record, reply: u8) -> u8 {
+    report_by(before_report, record, reply)
+}
+
+fn report_by(report: LinkedReport, record: &mut Record, reply: u8) -> u8 {
+    let (replies, lengths) = (&mut record.replies, &mut record.lengths);
+    // SAFETY: as above.
+    unsafe { report(&record.sheet, replies, lengths, reply) }
+}
+
+/// `report` in lent tables, which then are those of the record's sheet.
 pub fn report_in(record: &mut Record, reply: u8, tables: &mut Tables) -> u8 {
     // SAFETY: as above.
     unsafe {

@@ -26,19 +26,23 @@ impl Before {
             nodes: Box::new([0; NODE_CELLS]),
             sets: Box::new([0; SET_WORDS]),
         };
+        assert_eq!(tables.prepare(bytes, &mut [0; 4]), 0);
+        Some(tables)
+    }
+
+    /// The reader's answer, and writes an accepted sheet's tables and start set.
+    pub fn prepare(&mut self, bytes: &[u8], start: &mut Words) -> u8 {
         // SAFETY: the function has no precondition and touches only this memory.
-        let answer = unsafe {
+        unsafe {
             before_prepare(
                 bytes.as_ptr(),
                 bytes.len(),
-                &mut tables.heads,
-                &mut tables.nodes,
-                &mut tables.sets,
-                &mut [0; 4],
+                &mut self.heads,
+                &mut self.nodes,
+                &mut self.sets,
+                start,
             )
-        };
-        assert_eq!(answer, 0);
-        Some(tables)
+        }
     }
 
     #[inline]

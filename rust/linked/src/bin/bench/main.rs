@@ -4,7 +4,8 @@
 //! in release mode; an argument chooses one of the sections "reading", "tables",
 //! "steps", "verifying", "slowest", "lent", "growth" and "runner". Behind "growth"
 //! the path of a picture to write may follow. With the feature `before` the proved
-//! reader, settling, steps and verifier of an earlier commit are timed too.
+//! reader, tables, steps, settling, verifier and runner of an earlier commit are timed
+//! too.
 
 mod before;
 mod growth;
@@ -26,6 +27,7 @@ use recovery::encode::encode;
 use recovery::read::read;
 use recovery::runner::{Record, Told};
 
+use before::Before;
 use routines::verified_sheets;
 
 /// The budget of `planverify`.
@@ -42,13 +44,7 @@ fn main() {
     }
     if wanted("tables") {
         println!("\nreading and tables");
-        println!(
-            "{:<66} {:>5} {:>6} {:>11} {:>11} {:>7}",
-            "sheet", "bytes", "sets", "proved ns", "Rust ns", "ratio"
-        );
-        for (name, bytes) in sheets::prepared_sheets() {
-            prepare_row(&name, &bytes);
-        }
+        prepare_rows();
     }
     if wanted("steps") {
         println!("\nsteps and places, 8 facts");
@@ -76,29 +72,66 @@ fn main() {
     }
 }
 
-fn prepare_row(name: &str, bytes: &[u8]) {
+fn prepare_rows() {
+    println!(
+        "{:<66} {:>5} {:>6} {:>11} {:>11} {:>11} {:>9} {:>7}",
+        "sheet", "bytes", "sets", "proved ns", "before ns", "Rust ns", "to before", "to Rust"
+    );
+    let rows = sheets::prepared_sheets().into_iter();
+    let times: Vec<_> = rows
+        .map(|(name, bytes)| prepare_row(&name, &bytes))
+        .collect();
+    let proved: f64 = times.iter().map(|row| row.0).sum();
+    let before: Option<f64> = times.iter().map(|row| row.1).sum();
+    println!(
+        "{:<66} {:>5} {:>6} {proved:>11.0} {:>11} {:>11} {:>9}",
+        "all",
+        "",
+        "",
+        shown(before, 0),
+        "",
+        shown(before.map(|before| proved / before), 3)
+    );
+}
+
+/// Prints the row of a sheet, and gives the times of the proved function now and before.
+fn prepare_row(name: &str, bytes: &[u8]) -> (f64, Option<f64>) {
     let (mut tables, mut start) = (Tables::zeroed(), [0; 4]);
     assert_eq!(linked::prepare(bytes, &mut tables, &mut start), 0);
     let mut expected = Tables::zeroed();
     assert_eq!(plain::prepare(&read(bytes).unwrap(), &mut expected), start);
     assert!(tables == expected);
+    let mut earlier = Before::of(bytes);
+    if let Some(tables) = &mut earlier {
+        let mut start_before = [0; 4];
+        assert_eq!(tables.prepare(bytes, &mut start_before), 0);
+        assert_eq!(start_before, start);
+    }
     let sets = 1 + last_set(&tables);
     let mut proved = f64::INFINITY;
+    let mut before = None;
     let mut rust = f64::INFINITY;
     for _ in 0..7 {
         proved = proved.min(time(|| {
             u64::from(linked::prepare(black_box(bytes), &mut tables, &mut start))
         }));
+        before = earlier.as_mut().map(|tables| {
+            let time = time(|| u64::from(tables.prepare(black_box(bytes), &mut start)));
+            time.min(before.unwrap_or(f64::INFINITY))
+        });
         rust = rust.min(time(|| {
             let sheet = read(black_box(bytes)).unwrap();
             plain::prepare(&sheet, &mut expected)[0]
         }));
     }
     println!(
-        "{name:<66} {:>5} {sets:>6} {proved:>11.0} {rust:>11.0} {:>7.3}",
+        "{name:<66} {:>5} {sets:>6} {proved:>11.0} {:>11} {rust:>11.0} {:>9} {:>7.3}",
         bytes.len(),
+        shown(before, 0),
+        shown(before.map(|before| proved / before), 3),
         proved / rust
     );
+    (proved, before)
 }
 
 /// The last set that a node "known" or "not known" names: these sets are the last.
@@ -107,14 +140,48 @@ fn last_set(tables: &Tables) -> u16 {
     atoms.map(|node| node[1]).max().unwrap()
 }
 
-/// Loading, "Next" and "Report" of the proved runner beside two in Rust: `recovery::runner`,
-/// which reads the sheet and steps over its tree (data), and `plain::follow` over
-/// the tables that the proved `prepare` makes in its time. `next_in` and `report_in`
-/// are the proved ones in lent tables.
+/// The calls of a proved runner in tables of their own.
+#[derive(Clone, Copy)]
+struct Runner {
+    load: fn(&[u8], &mut linked::Record) -> u8,
+    next: fn(&linked::Record, &mut [usize; 2]) -> u8,
+    report: fn(&mut linked::Record, u8) -> u8,
+}
+
+const PROVED: Runner = Runner {
+    load: linked::load,
+    next: linked::next,
+    report: linked::report,
+};
+
+/// The proved runner of an earlier commit.
+#[cfg(feature = "before")]
+const BEFORE: Option<Runner> = Some(Runner {
+    load: linked::load_before,
+    next: linked::next_before,
+    report: linked::report_before,
+});
+#[cfg(not(feature = "before"))]
+const BEFORE: Option<Runner> = None;
+
+/// Loading, "Next" and "Report" of the proved runner beside the one of an earlier commit,
+/// if that is linked, and two in Rust: `recovery::runner`, which reads the sheet and
+/// steps over its tree (data), and `plain::follow` over the tables that the proved
+/// `prepare` makes in its time. `load_in`, `next_in` and `report_in` are the proved ones
+/// in lent tables, which the earlier commit doesn't have: before is in its own.
 fn runner_rows() {
     println!(
-        "{:<54} {:>7} {:>9} {:>10} {:>10} {:>10} {:>8} {:>9}",
-        "sheet", "replies", "call", "proved us", "data us", "tables us", "to data", "to tables"
+        "{:<54} {:>7} {:>9} {:>10} {:>10} {:>10} {:>10} {:>9} {:>8} {:>9}",
+        "sheet",
+        "replies",
+        "call",
+        "proved us",
+        "before us",
+        "data us",
+        "tables us",
+        "to before",
+        "to data",
+        "to tables"
     );
     let wanted = [
         "6 changes to 16 states each, 12 probes",
@@ -144,15 +211,20 @@ fn runner_rows() {
             plain::step(&tables, &mut set, action, reply.into());
             (action, set)
         };
-        let next = || {
+        let load = |runner: Runner| {
+            let mut loaded = black_box(&lent).clone();
+            assert_eq!((runner.load)(black_box(bytes), &mut loaded), 0);
+            loaded
+        };
+        let next = |runner: Runner| {
             let mut told = [0; 2];
-            assert_eq!(linked::next(black_box(&lent), &mut told), 0);
+            assert_eq!((runner.next)(black_box(&lent), &mut told), 0);
             told
         };
-        let report = || {
+        let report = |runner: Runner| {
             let mut after = black_box(&lent).clone();
-            assert_eq!(linked::report(&mut after, reply), 0);
-            after.lengths[1]
+            assert_eq!((runner.report)(&mut after, reply), 0);
+            after
         };
         // The same in lent tables.
         let mut memory = Tables::zeroed();
@@ -165,12 +237,7 @@ fn runner_rows() {
         let mut report_in = || {
             let mut after = black_box(&lent).clone();
             assert_eq!(linked::report_in(&mut after, reply, &mut memory), 0);
-            after.lengths[1]
-        };
-        let load = || {
-            let mut loaded = black_box(&lent).clone();
-            assert_eq!(linked::load(black_box(bytes), &mut loaded), 0);
-            loaded.lengths[0]
+            after
         };
         let mut memory = Tables::zeroed();
         let mut load_in = || {
@@ -179,50 +246,71 @@ fn runner_rows() {
                 linked::load_in(black_box(bytes), &mut loaded, &mut memory),
                 0
             );
-            loaded.lengths[0]
+            loaded
         };
-        assert_eq!([load(), load_in()], [bytes.len(); 2]);
+        let answers = |runner| (load(runner), next(runner), report(runner));
+        let (loaded, told, after) = answers(PROVED);
         let action = follow().0;
-        assert_eq!(next(), [0, action]);
+        assert_eq!(loaded.lengths, [bytes.len(), 0]);
+        assert_eq!(told, [0, action]);
         assert_eq!(record.clone().next().1, Told::Action(action as u8));
-        assert_eq!(report(), record.clone().report(reply).0.count);
-        assert_eq!((next_in(), report_in()), (next(), report()));
-        let mut least = [f64::INFINITY; 10];
+        let count = record.clone().report(reply).0.count;
+        assert_eq!(after.lengths, [bytes.len(), count]);
+        assert_eq!((load_in(), next_in(), report_in()), answers(PROVED));
+        if let Some(runner) = BEFORE {
+            assert_eq!(answers(runner), answers(PROVED));
+        }
+        // For each call the times of the proved ones, of the one before and over data.
+        let mut least = [[f64::INFINITY; 4]; 3];
+        let mut over_tables = f64::INFINITY;
         for _ in 0..7 {
             let times = [
-                time(next),
-                time(|| black_box(&record).clone().next().1),
-                time(report),
-                time(|| black_box(&record).clone().report(reply).1),
-                time(&mut follow),
-                time(&mut next_in),
-                time(&mut report_in),
-                time(load),
-                time(&mut load_in),
-                time(|| Record::load(black_box(bytes)).0.length),
+                [
+                    time(|| load(PROVED).lengths[0]),
+                    time(|| load_in().lengths[0]),
+                    BEFORE.map_or(f64::INFINITY, |runner| time(|| load(runner).lengths[0])),
+                    time(|| Record::load(black_box(bytes)).0.length),
+                ],
+                [
+                    time(|| next(PROVED)),
+                    time(&mut next_in),
+                    BEFORE.map_or(f64::INFINITY, |runner| time(|| next(runner))),
+                    time(|| black_box(&record).clone().next().1),
+                ],
+                [
+                    time(|| report(PROVED).lengths[1]),
+                    time(|| report_in().lengths[1]),
+                    BEFORE.map_or(f64::INFINITY, |runner| time(|| report(runner).lengths[1])),
+                    time(|| black_box(&record).clone().report(reply).1),
+                ],
             ];
-            for (least, time) in least.iter_mut().zip(times) {
+            for (least, time) in least
+                .as_flattened_mut()
+                .iter_mut()
+                .zip(times.as_flattened())
+            {
                 *least = least.min(time / 1000.0);
             }
+            over_tables = over_tables.min(time(&mut follow) / 1000.0);
         }
-        let [next, next_data, report, report_data, tables, next_in, report_in, load, load_in, load_data] =
-            least;
-        let follow = Some(tables);
-        for (call, proved, data, tables) in [
-            ("load", load, load_data, None),
-            ("load_in", load_in, load_data, None),
-            ("next", next, next_data, follow),
-            ("next_in", next_in, next_data, follow),
-            ("report", report, report_data, follow),
-            ("report_in", report_in, report_data, follow),
-        ] {
-            println!(
-                "{name:<54} {:>7} {call:>9} {proved:>10.2} {data:>10.2} {:>10} {:>8.4} {:>9}",
-                record.count,
-                shown(tables, 2),
-                proved / data,
-                shown(tables.map(|tables| proved / tables), 2)
-            );
+        let calls = [
+            (["load", "load_in"], None),
+            (["next", "next_in"], Some(over_tables)),
+            (["report", "report_in"], Some(over_tables)),
+        ];
+        for ((calls, tables), [own, lent, before, data]) in calls.into_iter().zip(least) {
+            let before = Some(before).filter(|before| before.is_finite());
+            for (call, proved) in calls.into_iter().zip([own, lent]) {
+                println!(
+                    "{name:<54} {:>7} {call:>9} {proved:>10.2} {:>10} {data:>10.2} {:>10} {:>9} {:>8.4} {:>9}",
+                    record.count,
+                    shown(before, 2),
+                    shown(tables, 2),
+                    shown(before.map(|before| proved / before), 2),
+                    proved / data,
+                    shown(tables.map(|tables| proved / tables), 2)
+                );
+            }
         }
     }
 }

@@ -34,7 +34,7 @@ pub fn rows() {
     settle_rows();
     println!("\nsettling by formula, 256 states");
     println!(
-        "{:<44} {:>5} {:>9} {:>9} {:>9} {:>9} {:>9}",
+        "{:<46} {:>5} {:>9} {:>9} {:>9} {:>9} {:>9}",
         "formula", "atoms", "proved ns", "before", "tables", "to before", "to tables"
     );
     formula_rows();
@@ -243,6 +243,16 @@ fn formula_rows() {
         ("a branch, a tree", branch(tree(4))),
         ("a branch, a chain to the right", branch(right(4))),
         ("a branch, a chain to the left", branch(left(4))),
+        ("a branch, by turns to the right", branch(turns_right(4))),
+        ("a branch, by turns to the left", branch(turns_left(4))),
+        (
+            "a branch, pairs joined by \"and\", these by \"or\"",
+            branch(holds().and(fails()).or(holds().and(holds()))),
+        ),
+        (
+            "a branch, pairs joined by \"or\", these by \"and\"",
+            branch(pairs(4)),
+        ),
         ("a goal of one atom", goal(holds())),
         ("a goal, a tree", goal(tree(4))),
         ("a goal, a chain to the right", goal(right(4))),
@@ -286,7 +296,7 @@ fn formula_rows() {
         let before = Some(before).filter(|before| before.is_finite());
         let ratio = before.map(|before| proved / before);
         println!(
-            "{name:<44} {:>5} {proved:>9.1} {:>9} {:>9} {:>9}",
+            "{name:<46} {:>5} {proved:>9.1} {:>9} {:>9} {:>9}",
             "",
             shown(before, 1),
             "",
@@ -334,7 +344,7 @@ fn formula_row(name: &str, count: usize, sheet: &Sheet) -> (f64, Option<f64>) {
     let [proved, before, rust] = least;
     let before = Some(before).filter(|before| before.is_finite());
     println!(
-        "{name:<44} {count:>5} {proved:>9.1} {:>9} {rust:>9.1} {:>9} {:>9.2}",
+        "{name:<46} {count:>5} {proved:>9.1} {:>9} {rust:>9.1} {:>9} {:>9.2}",
         shown(before, 1),
         shown(before.map(|before| proved / before), 2),
         proved / rust
