@@ -21,7 +21,7 @@ use Rattle.routine.specs.Memory.{nodeMost, setAt, nodeAt}
 use Rattle.routine.proofs.MemoryLaws.{past}
 use Rattle.routine.specs.Tables.{goalNode}
 use Rattle.progression.specs.declared.place.Place.{Place}
-use Rattle.progression.specs.Machine.{knownBy, atomHolds, joined, partNode, partsIn, partsHold, behind, holdsAt, atNode, settledFrom, settled}
+use Rattle.progression.specs.Machine.{knownBy, atomHolds, joined, partNode, partsIn, partsHold, formulaNode, holdsAt, atNode, settledFrom, settled}
 
 -- What a node leads to, by where it leads on.
 atNode-same : (formula : ℕ → Bool) (node : Node) (i : ℕ) (f g : ℕ → Place) → ((skip : ℕ) → f skip ≡ g skip) → atNode formula node i f ≡ atNode formula node i g
@@ -206,6 +206,15 @@ no-part isKnown all inner rest (Node.End count) t = refl
 no-part isKnown all inner rest (Node.Join both size) t = absurd (none-of 4 (omega arith) t)
 no-part isKnown all inner rest (Node.Atom positive k) t = absurd (none-of 5 (omega arith) t)
 
+not-formula : (isKnown : ℕ → Bool) (parts : Bool → ℕ → Bool) (x : Node) → OneOf (0 ∷ 1 ∷ 2 ∷ 3 ∷ []) (tagOf the-type x) → formulaNode isKnown parts x ≡ false
+unfolding formulaNode
+not-formula isKnown parts (Node.Act a number) t = refl
+not-formula isKnown parts (Node.Branch met unmet) t = refl
+not-formula isKnown parts (Node.Jump skip) t = refl
+not-formula isKnown parts (Node.End count) t = refl
+not-formula isKnown parts (Node.Join all size) t = absurd (none-of 4 (omega arith) t)
+not-formula isKnown parts (Node.Atom positive k) t = absurd (none-of 5 (omega arith) t)
+
 -- The parts in a memory, where a level is left, and where none is.
 module _ (nodes : List ℕ) (isKnown : ℕ → Bool) where
   pub parts-none : (left : ℕ) (all : Bool) (size i : ℕ) → left ≡ 0 → false ≡ partsHold nodes isKnown left all size i
@@ -257,31 +266,33 @@ module _ (nodes : List ℕ) (isKnown : ℕ → Bool) where
   none-left left all = parts-past (nodeAt nodes) isKnown all (partsHold nodes isKnown (left - 1) (not all))
 
   -- What holds at a node, by what stands there.
-  pub holds-by : (i : ℕ) (x : Node) → x ≡ nodeAt nodes i → holdsAt nodes isKnown i ≡ partsLeft deepest true (i + 1 + behind x) i
+  holds-by : (i : ℕ) (x : Node) → x ≡ nodeAt nodes i → formulaNode isKnown (λ all size. partsHold nodes isKnown (deepest - 1) all size (i + 1)) x ≡ holdsAt nodes isKnown i
   unfolding holdsAt
-  holds-by i x e =
-      let n : suc (behind x) ≡ i + 1 + behind x - i = omega arith in
-      ap (λ (y : Node). partsHold nodes isKnown deepest true (suc (behind y)) i) (sym e) ∙ ap (λ (v : ℕ). partsHold nodes isKnown deepest true v i) n
-      ∙ parts-to deepest true (i + 1 + behind x) i (omega arith)
+  holds-by i x e = ap (formulaNode isKnown (λ all size. partsHold nodes isKnown (deepest - 1) all size (i + 1))) e
 
   pub atom-holds : (i : ℕ) (positive : Bool) (k : ℕ) → Node.Atom positive k ≡ nodeAt nodes i → atomHolds isKnown positive k ≡ holdsAt nodes isKnown i
-  unfolding behind
-  atom-holds i positive k e =
-      sym (holds-by i (Node.Atom positive k) e ∙ parts-atom (nodeAt nodes) isKnown true (partsHold nodes isKnown (deepest - 1) false) (i + 1 + 0) i (omega arith) positive k e
-      ∙ ap (joined true (atomHolds isKnown positive k)) (none-left deepest true (i + 1 + 0) (i + 1) (omega arith)) ∙ joined-none true _)
+  unfolding formulaNode
+  atom-holds i positive k e = holds-by i (Node.Atom positive k) e
 
-  -- A formula of parts is the only part of an "and", or where "and" joins them its parts are.
-  pub join-holds : (i : ℕ) (all : Bool) (size : ℕ) → Node.Join all size ≡ nodeAt nodes i → (first : ℕ) → ((all ≡ true) × (first ≡ i + 1)) ⊎ (first ≡ i)
-      → partsHold nodes isKnown deepest true (i + 1 + size - first) first ≡ holdsAt nodes isKnown i
-  unfolding behind
-  join-holds i all size e first (inl (a, f)) =
-      ap (λ (j : ℕ). partsHold nodes isKnown deepest true (i + 1 + size - j) j) f ∙ parts-to deepest true (i + 1 + size) (i + 1) (omega arith)
-      ∙ sym (holds-by i (Node.Join all size) e ∙ alike-passes deepest true (i + 1 + size) i (omega arith) all size e a)
-  join-holds i all size e first (inr f) =
-      ap (λ (j : ℕ). partsHold nodes isKnown deepest true (i + 1 + size - j) j) f ∙ parts-to deepest true (i + 1 + size) i (omega arith) ∙ sym (holds-by i (Node.Join all size) e)
+  pub join-holds : (i : ℕ) (all : Bool) (size : ℕ) → Node.Join all size ≡ nodeAt nodes i → partsHold nodes isKnown (deepest - 1) all size (i + 1) ≡ holdsAt nodes isKnown i
+  unfolding formulaNode
+  join-holds i all size e = holds-by i (Node.Join all size) e
+
+  -- The parts of an "and" hold where it does; an "or" is the only part of an "and".
+  pub and-holds : (i : ℕ) (all : Bool) (size : ℕ) → Node.Join all size ≡ nodeAt nodes i → (first left : ℕ)
+      → ((all ≡ true) × (first ≡ i + 1) × (left ≡ deepest - 1)) ⊎ ((all ≡ false) × (first ≡ i) × (left ≡ deepest)) → partsHold nodes isKnown left true (i + 1 + size - first) first ≡ holdsAt nodes isKnown i
+  and-holds i all size e first left (inl (a, f, l)) =
+      let n : i + 1 + size - first ≡ size = omega arith in
+      (λ j. partsHold nodes isKnown (l j) (sym a j) (n j) (f j)) ∙ join-holds i all size e
+  and-holds i all size e first left (inr (a, f, l)) =
+      let n : i + 1 + size - (i + 1) ≡ size = omega arith in
+      (λ j. partsHold nodes isKnown (l j) true (i + 1 + size - f j) (f j)) ∙ parts-to deepest true (i + 1 + size) i (omega arith)
+      ∙ other-is deepest true (i + 1 + size) i (omega arith) all size (i + 1 + size) e a (omega arith) _ refl
+      ∙ ap (joined true (partsHold nodes isKnown (deepest - 1) false (i + 1 + size - (i + 1)) (i + 1))) (none-left deepest true (i + 1 + size) (i + 1 + size) (omega arith)) ∙ joined-none true _
+      ∙ (λ j. partsHold nodes isKnown (deepest - 1) (sym a j) (n j) (i + 1)) ∙ join-holds i all size e
 
   pub no-formula : (i : ℕ) (x : Node) → x ≡ nodeAt nodes i → OneOf (0 ∷ 1 ∷ 2 ∷ 3 ∷ []) (tagOf the-type x) → false ≡ holdsAt nodes isKnown i
-  no-formula i x e t = sym (holds-by i x e ∙ none-stands deepest true (i + 1 + behind x) i (omega arith) x e t)
+  no-formula i x e t = sym (not-formula isKnown (λ all size. partsHold nodes isKnown (deepest - 1) all size (i + 1)) x t) ∙ holds-by i x e
 
 -- An atom holds exactly if its flag says whether its formula is known.
 pub atom-known : (isKnown : ℕ → Bool) (positive : Bool) (k : ℕ) → Bool·beq (isKnown k) positive ≡ atomHolds isKnown positive k

@@ -24,8 +24,8 @@ use Rattle.routine.specs.Tables.{atoms, atomSets, formulaSize, formulaNodes, si
 use Rattle.routine.proofs.SizeLaws.{formula-length, atom-sets-length, nodes-length, program-sets-length}
 use Rattle.routine.proofs.TableLaws.{noStates, noNode}
 use Rattle.progression.specs.declared.place.Place.{Place}
-use Rattle.progression.specs.Machine.{knownBy, atomHolds, joined, partsHold, behind, holdsAt, atNode}
-use Rattle.progression.proofs.MachineLaws.{goesTo, goes-by, parts-past, parts-atom, parts-alike, parts-other, parts-to, partsLeft, none-left, joined-none, holds-by}
+use Rattle.progression.specs.Machine.{knownBy, atomHolds, joined, partsHold, holdsAt, atNode}
+use Rattle.progression.proofs.MachineLaws.{goesTo, goes-by, parts-atom, parts-alike, parts-other, parts-to, partsLeft, none-left, joined-none, atom-holds, join-holds}
 use Rattle.progression.proofs.PolicyLaws.{leftOf, allLeft}
 
 -- Items stand one behind the other from place i on, where `get` tells what stands at a place.
@@ -85,6 +85,22 @@ module _ (nodes sets : List ℕ) (set : States) where
   abbrev FormulaAt : (i k : ℕ) → Epistemic → Type 0
   FormulaAt i k f = Row (nodeAt nodes) noNode i (formulaNodes f k) × Row (setAt sets) noStates k (atomSets f)
 
+  -- Where two parts stand behind a node.
+  parts : (f g : Epistemic) (i k : ℕ) (x : Node) → Row (nodeAt nodes) noNode i (x ∷ (formulaNodes f k ++ formulaNodes g (k + atoms f)))
+      → Row (setAt sets) noStates k (atomSets f ++ atomSets g) → FormulaAt (i + 1) k f × FormulaAt (i + 1 + formulaSize f) (k + atoms f) g
+  parts f g i k x r s =
+      let later : Row (nodeAt nodes) noNode (i + 1) (formulaNodes f k ++ formulaNodes g (k + atoms f)) =
+      row-right (nodeAt nodes) noNode i (x ∷ []) (formulaNodes f k ++ formulaNodes g (k + atoms f)) (i + 1) (omega arith) r in (
+        (
+          row-left (nodeAt nodes) noNode (i + 1) (formulaNodes f k) _ later,
+          row-left (setAt sets) noStates k (atomSets f) _ s,
+        ),
+        (
+          row-right (nodeAt nodes) noNode (i + 1) (formulaNodes f k) _ (i + 1 + formulaSize f) (omega (arith, formula-length f k)) later,
+          row-right (setAt sets) noStates k (atomSets f) (atomSets g) (k + atoms f) (omega (arith, atom-sets-length f)) s,
+        ),
+      )
+
   abbrev sat : Epistemic → Bool
   sat = satisfies (members set)
 
@@ -96,59 +112,55 @@ module _ (nodes sets : List ℕ) (set : States) where
   abbrev IsPart : (left i : ℕ) → Epistemic → Type 0
   IsPart left i f = (all : Bool) (stop : ℕ) → i + formulaSize f ≤ stop → partsOf left all stop i ≡ joined all (sat f) (partsOf left all stop (i + formulaSize f))
 
-  -- Two formulas one behind the other are joined.
-  two-hold : (left i : ℕ) (f g : Epistemic) → 0 < left → IsPart left i f → IsPart left (i + formulaSize f) g → (all : Bool)
-      → partsHold nodes (knownBy sets set) left all (formulaSize f + formulaSize g) i ≡ joined all (sat f) (sat g)
-  two-hold left i f g h p q all =
-      let stop = i + (formulaSize f + formulaSize g) in
-      let n : formulaSize f + formulaSize g ≡ stop - i = omega arith in
-      ap (λ (v : ℕ). partsHold nodes (knownBy sets set) left all v i) n ∙ parts-to nodes (knownBy sets set) left all stop i h ∙ p all stop (omega arith)
-      ∙ ap (joined all (sat f))
-      (q all stop (omega arith) ∙ ap (joined all (sat g)) (parts-past (nodeAt nodes) (knownBy sets set) all (partsHold nodes (knownBy sets set) (left - 1) (not all)) stop _ (omega arith)) ∙ joined-none all (sat g))
-
   -- It is one wherever it stands, if its levels are left.
   abbrev AlwaysPart : Epistemic → Type 0
   AlwaysPart f = (left i k : ℕ) → Levels f left → FormulaAt i k f → IsPart left i f
 
-  -- If two formulas are, so is what joins them, in the same way as the parts around it or the other way.
-  join-part : (both : Bool) (f g : Epistemic) → AlwaysPart f → AlwaysPart g → (left i k : ℕ) → Levels f (left - 1) → Levels g (left - 1)
-      → Row (nodeAt nodes) noNode i (Node.Join both (formulaSize f + formulaSize g) ∷ (formulaNodes f k ++ formulaNodes g (k + atoms f))) → Row (setAt sets) noStates k (atomSets f ++ atomSets g)
-      → (all : Bool) (stop : ℕ) → i + suc (formulaSize f + formulaSize g) ≤ stop
-      → partsOf left all stop i ≡ joined all (joined both (sat f) (sat g)) (partsOf left all stop (i + suc (formulaSize f + formulaSize g)))
-  join-part both f g p q left i k d₁ d₂ r s all stop l = go (Bool·beq both all) refl
-    where
-      here : Node.Join both (formulaSize f + formulaSize g) ≡ nodeAt nodes i
-      here = sym (row-first (nodeAt nodes) noNode i _ (formulaNodes f k ++ formulaNodes g (k + atoms f)) r)
+  -- If two formulas are, then they are joined behind a node, and so is what it makes of them, joined in the same way as the parts around it or the other way.
+  module _ (both : Bool) (f g : Epistemic) (p : AlwaysPart f) (q : AlwaysPart g) (i k : ℕ) (r : Row (nodeAt nodes) noNode i (Node.Join both (formulaSize f + formulaSize g) ∷ (formulaNodes f k ++ formulaNodes g (k + atoms f)))) (s : Row (setAt sets) noStates k (atomSets f ++ atomSets g)) where
+    here : Node.Join both (formulaSize f + formulaSize g) ≡ nodeAt nodes i
+    here = sym (row-first (nodeAt nodes) noNode i _ (formulaNodes f k ++ formulaNodes g (k + atoms f)) r)
 
-      later : Row (nodeAt nodes) noNode (i + 1) (formulaNodes f k ++ formulaNodes g (k + atoms f))
-      later = row-right (nodeAt nodes) noNode i (Node.Join both (formulaSize f + formulaSize g) ∷ []) (formulaNodes f k ++ formulaNodes g (k + atoms f)) (i + 1) (omega arith) r
+    first : (left : ℕ) → Levels f left → IsPart left (i + 1) f
+    first left d = p left (i + 1) k d (parts f g i k _ r s .0)
 
-      first : (left : ℕ) → Levels f left → IsPart left (i + 1) f
-      first left d = p left (i + 1) k d (row-left (nodeAt nodes) noNode (i + 1) (formulaNodes f k) _ later, row-left (setAt sets) noStates k (atomSets f) _ s)
+    second : (left : ℕ) → Levels g left → IsPart left (i + 1 + formulaSize f) g
+    second left d = q left (i + 1 + formulaSize f) (k + atoms f) d (parts f g i k _ r s .1)
 
-      second : (left : ℕ) → Levels g left → IsPart left (i + 1 + formulaSize f) g
-      second left d =
-          q left (i + 1 + formulaSize f) (k + atoms f) d
-          (row-right (nodeAt nodes) noNode (i + 1) (formulaNodes f k) _ (i + 1 + formulaSize f) (omega (arith, formula-length f k)) later, row-right (setAt sets) noStates k (atomSets f) (atomSets g) (k + atoms f) (omega (arith, atom-sets-length f)) s)
+    two-hold : (left : ℕ) → Levels f left → Levels g left → (all : Bool) → partsHold nodes (knownBy sets set) left all (formulaSize f + formulaSize g) (i + 1) ≡ joined all (sat f) (sat g)
+    two-hold left d e all =
+        let stop = i + 1 + (formulaSize f + formulaSize g) in
+        let n : formulaSize f + formulaSize g ≡ stop - (i + 1) = omega arith in
+        ap (λ (v : ℕ). partsHold nodes (knownBy sets set) left all v (i + 1)) n ∙ parts-to nodes (knownBy sets set) left all stop (i + 1) (some-level f left d) ∙ first left d all stop (omega arith)
+        ∙ ap (joined all (sat f))
+        (second left e all stop (omega arith) ∙ ap (joined all (sat g)) (none-left nodes (knownBy sets set) left all stop _ (omega arith)) ∙ joined-none all (sat g))
 
-      last : i + 1 + formulaSize f + formulaSize g ≡ i + suc (formulaSize f + formulaSize g)
-      last = omega arith
+    join-part : (left : ℕ) → Levels f (left - 1) → Levels g (left - 1) → (all : Bool) (stop : ℕ) → i + suc (formulaSize f + formulaSize g) ≤ stop
+        → partsOf left all stop i ≡ joined all (joined both (sat f) (sat g)) (partsOf left all stop (i + suc (formulaSize f + formulaSize g)))
+    join-part left d e all stop l = go (Bool·beq both all) refl
+      where
+        last : i + 1 + formulaSize f + formulaSize g ≡ i + suc (formulaSize f + formulaSize g)
+        last = omega arith
 
-      behind : i + 1 + (formulaSize f + formulaSize g) ≡ i + suc (formulaSize f + formulaSize g)
-      behind = omega arith
+        behind : i + 1 + (formulaSize f + formulaSize g) ≡ i + suc (formulaSize f + formulaSize g)
+        behind = omega arith
 
-      go : (b : Bool) → Bool·beq both all ≡ b → partsOf left all stop i ≡ joined all (joined both (sat f) (sat g)) (partsOf left all stop (i + suc (formulaSize f + formulaSize g)))
-      go true t =
-          parts-alike (nodeAt nodes) (knownBy sets set) all (partsHold nodes (knownBy sets set) (left - 1) (not all)) stop i (omega arith) both (formulaSize f + formulaSize g) here t
-          ∙ first left (more-levels f left d₁) all stop (omega arith)
-          ∙ ap (joined all (sat f)) (second left (more-levels g left d₂) all stop (omega arith) ∙ ap (λ (j : ℕ). joined all (sat g) (partsOf left all stop j)) last)
-          ∙ joined-twice both all (sat f) (sat g) (partsOf left all stop (i + suc (formulaSize f + formulaSize g))) t
-      go false t =
-          let m : min (formulaSize f + formulaSize g) (stop - (i + 1)) ≡ formulaSize f + formulaSize g = omega arith in
-          parts-other (nodeAt nodes) (knownBy sets set) all (partsHold nodes (knownBy sets set) (left - 1) (not all)) stop i (omega arith) both (formulaSize f + formulaSize g) here t
-          ∙ ap (λ (x : Bool). joined all x (partsOf left all stop (i + 1 + (formulaSize f + formulaSize g))))
-          (ap (λ (n : ℕ). partsHold nodes (knownBy sets set) (left - 1) (not all) n (i + 1)) m ∙ two-hold (left - 1) (i + 1) f g (some-level f (left - 1) d₁) (first (left - 1) d₁) (second (left - 1) d₂) (not all) ∙ ap (λ (x : Bool). joined x (sat f) (sat g)) (differing both all t))
-          ∙ ap (λ (j : ℕ). joined all (joined both (sat f) (sat g)) (partsOf left all stop j)) behind
+        go : (b : Bool) → Bool·beq both all ≡ b → partsOf left all stop i ≡ joined all (joined both (sat f) (sat g)) (partsOf left all stop (i + suc (formulaSize f + formulaSize g)))
+        go true t =
+            parts-alike (nodeAt nodes) (knownBy sets set) all (partsHold nodes (knownBy sets set) (left - 1) (not all)) stop i (omega arith) both (formulaSize f + formulaSize g) here t
+            ∙ first left (more-levels f left d) all stop (omega arith)
+            ∙ ap (joined all (sat f)) (second left (more-levels g left e) all stop (omega arith) ∙ ap (λ (j : ℕ). joined all (sat g) (partsOf left all stop j)) last)
+            ∙ joined-twice both all (sat f) (sat g) (partsOf left all stop (i + suc (formulaSize f + formulaSize g))) t
+        go false t =
+            let m : min (formulaSize f + formulaSize g) (stop - (i + 1)) ≡ formulaSize f + formulaSize g = omega arith in
+            parts-other (nodeAt nodes) (knownBy sets set) all (partsHold nodes (knownBy sets set) (left - 1) (not all)) stop i (omega arith) both (formulaSize f + formulaSize g) here t
+            ∙ ap (λ (x : Bool). joined all x (partsOf left all stop (i + 1 + (formulaSize f + formulaSize g))))
+            (ap (λ (n : ℕ). partsHold nodes (knownBy sets set) (left - 1) (not all) n (i + 1)) m ∙ two-hold (left - 1) d e (not all) ∙ ap (λ (x : Bool). joined x (sat f) (sat g)) (differing both all t))
+            ∙ ap (λ (j : ℕ). joined all (joined both (sat f) (sat g)) (partsOf left all stop j)) behind
+
+    -- As a formula of its own it holds as they do, joined.
+    join-alone : Levels f (deepest - 1) → Levels g (deepest - 1) → holdsAt nodes (knownBy sets set) i ≡ joined both (sat f) (sat g)
+    join-alone d e = sym (join-holds nodes (knownBy sets set) i both (formulaSize f + formulaSize g) here) ∙ two-hold (deepest - 1) d e both
 
   -- So every formula is.
   is-part : (f : Epistemic) → AlwaysPart f
@@ -159,24 +171,18 @@ module _ (nodes sets : List ℕ) (set : States) where
   is-part (not-known f) left i k d at = λ all stop l.
       parts-atom (nodeAt nodes) (knownBy sets set) all (partsHold nodes (knownBy sets set) (left - 1) (not all)) stop i (omega arith) false k (sym (row-first (nodeAt nodes) noNode i _ [] (at .0)))
       ∙ ap (λ (x : Bool). joined all (not x) (partsOf left all stop (i + 1))) (table-known (setAt sets) set k f (row-first (setAt sets) noStates k _ [] (at .1)))
-  is-part (all-of f g) left i k d at = join-part true f g (is-part f) (is-part g) left i k (d .1) (d .2) (at .0) (at .1)
-  is-part (any-of f g) left i k d at = join-part false f g (is-part f) (is-part g) left i k (d .1) (d .2) (at .0) (at .1)
-
-  -- Its first node tells how many it has.
-  size-told : (f : Epistemic) (i k : ℕ) → FormulaAt i k f → suc (behind (nodeAt nodes i)) ≡ formulaSize f
-  unfolding formulaNodes formulaSize behind
-  size-told (known f) i k (r, s) = ap (λ (x : Node). suc (behind x)) (row-first (nodeAt nodes) noNode i _ [] r)
-  size-told (not-known f) i k (r, s) = ap (λ (x : Node). suc (behind x)) (row-first (nodeAt nodes) noNode i _ [] r)
-  size-told (all-of f g) i k (r, s) = ap (λ (x : Node). suc (behind x)) (row-first (nodeAt nodes) noNode i _ (formulaNodes f k ++ formulaNodes g (k + atoms f)) r)
-  size-told (any-of f g) i k (r, s) = ap (λ (x : Node). suc (behind x)) (row-first (nodeAt nodes) noNode i _ (formulaNodes f k ++ formulaNodes g (k + atoms f)) r)
+  is-part (all-of f g) left i k d at = join-part true f g (is-part f) (is-part g) i k (at .0) (at .1) left (d .1) (d .2)
+  is-part (any-of f g) left i k d at = join-part false f g (is-part f) (is-part g) i k (at .0) (at .1) left (d .1) (d .2)
 
   -- A formula holds on its nodes as it does in the knowledge state.
   pub formula-holds : (f : Epistemic) (i k : ℕ) → Levels f deepest → FormulaAt i k f → holdsAt nodes (knownBy sets set) i ≡ satisfies (members set) f
-  formula-holds f i k d at =
-      let stop = i + formulaSize f in
-      let e : i + 1 + behind (nodeAt nodes i) ≡ stop = omega (arith, size-told f i k at) in
-      holds-by nodes (knownBy sets set) i (nodeAt nodes i) refl ∙ ap (λ (v : ℕ). partsOf deepest true v i) e ∙ is-part f deepest i k d at true stop (omega arith)
-      ∙ ap (joined true (sat f)) (none-left nodes (knownBy sets set) deepest true stop stop (omega arith)) ∙ joined-none true (sat f)
+  unfolding formulaNodes atomSets Levels satisfies atomHolds joined knownBy
+  formula-holds (known f) i k d (r, s) =
+      sym (atom-holds nodes (knownBy sets set) i true k (sym (row-first (nodeAt nodes) noNode i _ [] r))) ∙ table-known (setAt sets) set k f (row-first (setAt sets) noStates k _ [] s)
+  formula-holds (not-known f) i k d (r, s) =
+      sym (atom-holds nodes (knownBy sets set) i false k (sym (row-first (nodeAt nodes) noNode i _ [] r))) ∙ ap not (table-known (setAt sets) set k f (row-first (setAt sets) noStates k _ [] s))
+  formula-holds (all-of f g) i k d (r, s) = join-alone true f g (is-part f) (is-part g) i k r s (d .1) (d .2)
+  formula-holds (any-of f g) i k d (r, s) = join-alone false f g (is-part f) (is-part g) i k r s (d .1) (d .2)
 
 -- What stands in a memory: the end of the program at node `end-at`; there are `count` actions.
 module _ (nodes sets : List ℕ) (end-at count : ℕ) where

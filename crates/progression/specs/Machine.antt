@@ -63,19 +63,20 @@ unfolding partsIn nodeAt
 partsHold nodes isKnown zero all size i = false
 partsHold nodes isKnown (suc left) all size i = partsIn (nodeAt nodes) isKnown all (partsHold nodes isKnown left (not all)) size 0 i
 
--- How many nodes of a formula stand behind its first node.
-unfoldable pub behind : Node → ℕ
-behind (Node.Join all size) = size
-behind (Node.Atom positive k) = 0
-behind (Node.Act a number) = 0
-behind (Node.Branch met unmet) = 0
-behind (Node.Jump skip) = 0
-behind (Node.End count) = 0
+-- What the first node of a formula says, where `parts` tells of its parts. Other nodes are no formula.
+unfoldable pub formulaNode : (isKnown : ℕ → Bool) (parts : (all : Bool) (size : ℕ) → Bool) → Node → Bool
+unfolding atomHolds
+formulaNode isKnown parts (Node.Atom positive k) = atomHolds isKnown positive k
+formulaNode isKnown parts (Node.Join all size) = parts all size
+formulaNode isKnown parts (Node.Act a number) = false
+formulaNode isKnown parts (Node.Branch met unmet) = false
+formulaNode isKnown parts (Node.Jump skip) = false
+formulaNode isKnown parts (Node.End count) = false
 
--- Whether the formula at node i holds, by what is known: as the only part of an "and". Where no formula stands nothing holds.
+-- Whether the formula at node i holds, by what is known. Where no formula stands nothing holds.
 unfoldable pub holdsAt : (nodes : List ℕ) (isKnown : ℕ → Bool) (i : ℕ) → Bool
-unfolding behind partsHold nodeAt
-holdsAt nodes isKnown i = partsHold nodes isKnown deepest true (suc (behind (nodeAt nodes i))) i
+unfolding formulaNode partsHold nodeAt
+holdsAt nodes isKnown i = formulaNode isKnown (λ all size. partsHold nodes isKnown (deepest - 1) all size (i + 1)) (nodeAt nodes i)
 
 -- A node is where the program settles, or it leads on, so many nodes further. `formula` tells whether the formula at a node holds: a branch goes by that behind it, the
 -- end by the goal. A node of a formula is an end too.

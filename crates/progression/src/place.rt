@@ -133,8 +133,8 @@ fn one_holds(
     false
 }
 
-// Whether the formula at node `at` holds where the states of a set are possible: as the only part of an "and", which is
-// its parts if "and" joins them.
+// Whether the formula at node `at` holds where the states of a set are possible. If "and" joins its parts they are judged,
+// each with one level less than the formula; else the formula is, as the only part of an "and".
 fn formula_holds(nodes: &[u16; NODE_CELLS], sets: &[u64; SET_WORDS], set: States, at: usize) -> bool
     ensures { λ r. ⌜ r ≡ holdsAt (now (nodes .entry)) (knownBy (now (sets .entry)) set) at ⌝ }
 {
@@ -142,11 +142,13 @@ fn formula_holds(nodes: &[u16; NODE_CELLS], sets: &[u64; SET_WORDS], set: States
         Node::Atom(positive, k) => atom_holds(sets, set, positive, k),
         Node::Join(all, size) => {
             let mut first = at;
+            let mut left = DEPTH;
             if all {
                 first = at + 1;
+                left = DEPTH - 1;
             }
             let words = set.words();
-            all_hold(nodes, sets, &words, first, at + 1 + size, DEPTH)
+            all_hold(nodes, sets, &words, first, at + 1 + size, left)
         }
         _ => false,
     }

@@ -340,13 +340,13 @@ mod machine {
         (0..256).all(|state| !member(set, state) || member(&told, state))
     }
 
-    /// Whether the formula at a node holds: as the only part of an "and".
+    /// Whether the formula at a node holds.
     fn holds_at(tables: &Tables, set: &Words, at: usize, met: &mut Met) -> bool {
-        let behind = match node_at(tables, at) {
-            [3, size, _] => size,
-            _ => 0,
-        };
-        parts_hold(tables, set, LEVELS, true, 1 + behind, at, met)
+        match node_at(tables, at) {
+            [3, size, flag] => parts_hold(tables, set, LEVELS - 1, flag == 1, size, at + 1, met),
+            [4, k, flag] => known_by(tables, set, k) == (flag == 1),
+            _ => false,
+        }
     }
 
     /// Whether all parts, or one of them, hold that stand in so many nodes from a

@@ -9,10 +9,9 @@ use denote.Ref.{now}
 use Rattle.states.specs.declared.States.{States}
 use Rattle.states.specs.Sets.{ofWords}
 use Rattle.states.proofs.SetLaws.{words-back}
-use Rattle.format.specs.Format.{deepest}
 use Rattle.routine.specs.Memory.{Small}
 use Rattle.progression.specs.Machine.{knownBy, partsHold}
-use Rattle.progression.proofs.MachineLaws.{atom-holds, join-holds, join-inside, no-formula}
+use Rattle.progression.proofs.MachineLaws.{atom-holds, and-holds, join-inside, no-formula}
 use Rattle.progression.proofs.place.formula_holds.Statement.{statement}
 use Rattle.progression.proofs.place.formula_holds.Tie as tie
 
@@ -30,6 +29,9 @@ enum-known-all c = search needs
 
 add-first : tie.Need-add-first
 add-first c = omega (arith, join-inside _ _ _ _ (sym (c .before .before .all .given .1) ∙ c .before .before .before .before .node-at .ensures .0))
+
+sub-left : tie.Need-sub-left
+sub-left c = search needs
 
 words-requires : tie.Need-words-requires
 words-requires c κs = search needs
@@ -52,16 +54,17 @@ returns c = c .atom-holds .ensures ∙ atom-holds _ _ _ _ _ (sym (c .before .bef
 returns-2 : tie.Need-returns-2
 returns-2 c =
     let a = c .before .before .before .before .before .before .before .before .args in
-    let first = c .before .before .before .if1 .first in
+    let met = c .before .before .before .if1 in
     let size = c .before .before .before .before .before .all .given .0 .1 .0 in
     c .all-hold .ensures
-    ∙ ap (λ (s : States). partsHold (now (a .nodes)) (knownBy (now (a .sets)) s) deepest true (a .at + 1 + size - first) first) (ap ofWords (c .before .before .words .ensures) ∙ words-back (a .set))
-    ∙ join-holds _ _ _ _ _ (sym (c .before .before .before .before .before .all .given .1) ∙ c .before .before .before .before .before .before .before .node-at .ensures .0) first
-    (⊎-elim (λ w. inl (w .0 .taken, w .1)) (λ w. inr (w .1)) (c .before .before .before .if1 .came))
+    ∙ ap (λ (s : States). partsHold (now (a .nodes)) (knownBy (now (a .sets)) s) (met .left) true (a .at + 1 + size - met .first) (met .first)) (ap ofWords (c .before .before .words .ensures) ∙ words-back (a .set))
+    ∙ and-holds _ _ _ _ _ (sym (c .before .before .before .before .before .all .given .1) ∙ c .before .before .before .before .before .before .before .node-at .ensures .0) (met .first) (met .left)
+    (⊎-elim (λ w. inl (w .0 .taken, w .1, w .2)) (λ w. inr (w .0 .left, w .1, w .2)) (met .came))
 
 returns-3 : tie.Need-returns-3
 returns-3 c = no-formula _ _ _ _ (c .before .node-at .ensures .0) (c .match .keys3)
 
 pub formula-holds-spec : {M : Type 1} → statement M
 formula-holds-spec =
-    tie.close (tie.spec node-at-requires enum-known-positive atom-holds-requires enum-known-all add-first words-requires add-all-hold add-all-hold-2 all-hold-requires returns returns-2 returns-3)
+    tie.close
+    (tie.spec node-at-requires enum-known-positive atom-holds-requires enum-known-all add-first sub-left words-requires add-all-hold add-all-hold-2 all-hold-requires returns returns-2 returns-3)
