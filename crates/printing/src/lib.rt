@@ -14,7 +14,7 @@ ghost use Rattle.routine.specs.Memory.{write};
 ghost use Rattle.verifier.specs.Answers.{answerOf};
 ghost use Rattle.printing.specs.Lines.{Put, behindWord, shownIn, Printable};
 
-// The bytes that the lines take at most.
+// The bytes that are lent for the lines.
 pub const LINES: usize = 512;
 
 // The budget of planverify.

@@ -134,7 +134,7 @@ module _ (node : ℕ → Node) (isKnown : ℕ → Bool) (all : Bool) (inner : (s
   abbrev pub partsTo : (end i : ℕ) → Bool
   partsTo end i = partsIn node isKnown all inner (end - i) 0 i
 
-  pub parts-by : (end i : ℕ) → i < end → (x : Node) → x ≡ node i → partsTo end i ≡ partNode isKnown all (λ n. inner (min n (end - (i + 1))) (i + 1)) (λ skip. partsTo end (i + 1 + skip)) x
+  parts-by : (end i : ℕ) → i < end → (x : Node) → x ≡ node i → partsTo end i ≡ partNode isKnown all (λ n. inner (min n (end - (i + 1))) (i + 1)) (λ skip. partsTo end (i + 1 + skip)) x
   parts-by end i h x e =
       let l : end - i ≡ suc (end - (i + 1)) = omega arith in
       ap (λ (n : ℕ). partsIn node isKnown all inner n 0 i) l ∙ parts-here (end - (i + 1)) i

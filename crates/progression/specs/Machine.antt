@@ -188,6 +188,11 @@ and-in-or : judgedBy (any-of (all-of (known (fact 0)) (known top)) (known top)) 
 unfolding judgedBy
 and-in-or = refl
 
+-- What stands behind it is no part of it.
+or-before-and : judgedBy (all-of (any-of (known (fact 0)) (known (fact 0))) (known top)) (low 3) ≡ Place.End false
+unfolding judgedBy
+or-before-and = refl
+
 -- A first part of several nodes is skipped as a whole.
 second-behind : judgedBy (all-of (any-of (known top) (known (fact 0))) (not-known (fact 0))) (low 2) ≡ Place.End false
 unfolding judgedBy

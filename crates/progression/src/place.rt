@@ -35,7 +35,7 @@ fn atom_holds(sets: &[u64; SET_WORDS], set: States, positive: bool, k: usize) ->
 }
 
 // The lesser of two numbers.
-fn least(a: usize, b: usize) -> usize
+fn lesser(a: usize, b: usize) -> usize
     ensures { λ r. ⌜ r ≡ min a b ⌝ }
 {
     if a < b {
@@ -46,9 +46,10 @@ fn least(a: usize, b: usize) -> usize
 
 // Whether all parts hold that stand from node `at` on before node `end`, where the states of a set are possible, whose words
 // are lent. A part joined by "or" takes one of the `left` levels; one joined by "and" stands for its parts, so that a chain
-// or tree of one connective costs little more than its atoms. Behind a part that fails nothing is tested. No part goes on
-// behind `end`, so that in any memory a formula meets each node at most once at each level. (That "and" and "or" have a
-// function each, and that the set is lent, makes calls cheaper: docs/PERFORMANCE.md.)
+// or tree of one connective costs little more than its atoms. Behind a part that fails nothing is tested. Where no level is
+// left nothing holds, nor at a node that is no part. No part goes on behind `end`, so that in any memory a formula meets each
+// node at most once at each level. (That "and" and "or" have a function each, and that the set is lent, makes calls cheaper:
+// docs/PERFORMANCE.md.)
 fn all_hold(
     nodes: &[u16; NODE_CELLS],
     sets: &[u64; SET_WORDS],
@@ -75,7 +76,7 @@ fn all_hold(
             Node::Join(all, size) => {
                 i = i + 1;
                 if !all {
-                    let stop = least(i + size, end);
+                    let stop = lesser(i + size, end);
                     if !one_holds(nodes, sets, words, i, stop, left - 1) {
                         return false;
                     }
@@ -118,7 +119,7 @@ fn one_holds(
             Node::Join(all, size) => {
                 i = i + 1;
                 if all {
-                    let stop = least(i + size, end);
+                    let stop = lesser(i + size, end);
                     if all_hold(nodes, sets, words, i, stop, left - 1) {
                         return true;
                     }

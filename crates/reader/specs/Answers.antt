@@ -46,7 +46,7 @@ unfoldable pub withoutValue : {A : Type 0} → Answer A → Answer (Unit {0})
 unfolding onAccepted
 withoutValue = onAccepted (λ a. gives tt)
 
--- An answer as a number: 0 where something is accepted, else the number of the refusal.
+-- An answer as a number: 0 where something is given, else the number of the refusal.
 unfoldable pub numberFor : {A : Type 0} → Answer A → ℕ
 numberFor (gives a) = 0
 numberFor (refused r) = r

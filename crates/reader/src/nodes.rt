@@ -74,13 +74,14 @@ pub fn header(bytes: &[u8]) -> ParsedHeader
         return ParsedHeader::Refused(Refusal::Cut);
     };
     let space = States::all(n);
-    ParsedHeader::Read(Header {
+    let read = Header {
         edition,
         facts: n,
         actions: k,
         space,
         at: end,
-    })
+    };
+    ParsedHeader::Read(read)
 }
 
 // The kind of the action at a position.

@@ -6,7 +6,7 @@ use Rattle.lists.specs.Lists.{if_then_else_}
 use Rattle.format.specs.Format.{Answer, gives, refused, reading}
 use Rattle.semantics.specs.Verdict.{Verdict, valid, invalid, stopped, outcomeOf, verdictOf, shownBy}
 
--- The bytes of a space, a line feed, and the digits from "0" and from "a" on.
+-- The bytes of a space and of a line feed.
 abbrev pub space : ℕ
 space = 0x20
 

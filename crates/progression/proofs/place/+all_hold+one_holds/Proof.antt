@@ -18,7 +18,7 @@ use Rattle.routine.proofs.node_at.Reads as node-at
 use Rattle.progression.specs.Machine.{knownBy, atomHolds, partsHold}
 use Rattle.progression.proofs.MachineLaws.{parts-none, parts-to, partsLeft, atom-decides, atom-passes, alike-passes, other-decides, other-passes, none-stands, none-left, join-inside}
 use Rattle.progression.proofs.place.atom_holds.Reads as atom
-use Rattle.progression.proofs.place.least.Reads as least
+use Rattle.progression.proofs.place.lesser.Reads as lesser
 use Rattle.progression.proofs.place.all_hold.Reads as all
 use Rattle.progression.proofs.place.all_hold.Kinds as all-kinds
 use Rattle.progression.proofs.place.+all_hold+one_holds.Lts-all_hold as all-lts
@@ -57,7 +57,7 @@ abbrev one-below : ℕ → In 3 one-kinds.ps
 one-below t = and 3 one-kinds.ps (falls 3 one-kinds.ps _<_ μ-one t) one.Pre
 
 abbrev all-calls : ℕ → all-lts.Claims
-all-calls t = (of-words.Asked, of-words.Learnt, node-at.Asked, node-at.Learnt, atom.Asked, atom.Learnt, least.Asked, least.Learnt, one-below t, one.Post)
+all-calls t = (of-words.Asked, of-words.Learnt, node-at.Asked, node-at.Learnt, atom.Asked, atom.Learnt, lesser.Asked, lesser.Learnt, one-below t, one.Post)
 
 abbrev all-Inv : all-lts.InvT-loop
 all-Inv nodes sets words at end left set i₀ i = partsHold nodes (knownBy sets (ofWords words)) left true (end - at) at ≡ partsLeft nodes (knownBy sets (ofWords words)) left true end i
@@ -66,7 +66,7 @@ abbrev all-μ : all-lts.MeasureT-loop
 all-μ nodes sets words at end left set i₀ i = end - i
 
 abbrev one-calls : ℕ → one-lts.Claims
-one-calls t = (of-words.Asked, of-words.Learnt, node-at.Asked, node-at.Learnt, atom.Asked, atom.Learnt, least.Asked, least.Learnt, all-below t, all.Post)
+one-calls t = (of-words.Asked, of-words.Learnt, node-at.Asked, node-at.Learnt, atom.Asked, atom.Learnt, lesser.Asked, lesser.Learnt, all-below t, all.Post)
 
 abbrev one-Inv : one-lts.InvT-loop
 one-Inv nodes sets words at end left set i₀ i = partsHold nodes (knownBy sets (ofWords words)) left false (end - at) at ≡ partsLeft nodes (knownBy sets (ofWords words)) left false end i
@@ -111,11 +111,11 @@ module _ (t : ℕ) where
   all-add-i-2 : all-lts.Need-add-i-2 (all-calls t) (all-given t) all.Post all-Inv all-μ
   all-add-i-2 c = omega (arith, c .before .before .before .before .before .before .before .before .fits .end)
 
-  all-add-least : all-lts.Need-add-least (all-calls t) (all-given t) all.Post all-Inv all-μ
-  all-add-least c = omega (arith, join-inside _ _ _ _ (sym (c .before .before .all .given .1) ∙ c .before .before .before .before .node-at .ensures .0), small _ _ _ (c .before .before .all .given .1) (c .before .before .before .before .node-at .ensures .1))
+  all-add-lesser : all-lts.Need-add-lesser (all-calls t) (all-given t) all.Post all-Inv all-μ
+  all-add-lesser c = omega (arith, join-inside _ _ _ _ (sym (c .before .before .all .given .1) ∙ c .before .before .before .before .node-at .ensures .0), small _ _ _ (c .before .before .all .given .1) (c .before .before .before .before .node-at .ensures .1))
 
-  all-least-requires : all-lts.Need-least-requires (all-calls t) (all-given t) all.Post all-Inv all-μ
-  all-least-requires c κs = search needs
+  all-lesser-requires : all-lts.Need-lesser-requires (all-calls t) (all-given t) all.Post all-Inv all-μ
+  all-lesser-requires c κs = search needs
 
   all-sub-one-holds : all-lts.Need-sub-one-holds (all-calls t) (all-given t) all.Post all-Inv all-μ
   all-sub-one-holds c = omega arith
@@ -124,7 +124,7 @@ module _ (t : ℕ) where
   all-one-holds-requires c κs = omega (arith, c .before .before .before .before .before .before .before .before .before .before .pre .0)
 
   all-returns-3 : all-lts.Need-returns-3 (all-calls t) (all-given t) all.Post all-Inv all-μ
-  all-returns-3 c = sym (c .before .before .before .before .before .before .before .before .before .loop .inv ∙ other-decides _ _ _ _ _ (c .before .before .before .before .before .before .before .before .before .loop .i) (omega arith) _ _ _ (sym (c .before .before .before .before .before .all .given .1) ∙ c .before .before .before .before .before .before .before .node-at .ensures .0) (not-true _ (c .before .before .before .if3 .taken)) (c .before .before .least .ensures) _ (c .before .one-holds .ensures) (not-true _ (c .if4 .taken)))
+  all-returns-3 c = sym (c .before .before .before .before .before .before .before .before .before .loop .inv ∙ other-decides _ _ _ _ _ (c .before .before .before .before .before .before .before .before .before .loop .i) (omega arith) _ _ _ (sym (c .before .before .before .before .before .all .given .1) ∙ c .before .before .before .before .before .before .before .node-at .ensures .0) (not-true _ (c .before .before .before .if3 .taken)) (c .before .before .lesser .ensures) _ (c .before .one-holds .ensures) (not-true _ (c .if4 .taken)))
 
   all-add-i-3 : all-lts.Need-add-i-3 (all-calls t) (all-given t) all.Post all-Inv all-μ
   all-add-i-3 c = omega (arith, join-inside _ _ _ _ (sym (c .before .before .before .before .before .all .given .1) ∙ c .before .before .before .before .before .before .before .node-at .ensures .0), small _ _ _ (c .before .before .before .before .before .all .given .1) (c .before .before .before .before .before .before .before .node-at .ensures .1))
@@ -133,7 +133,7 @@ module _ (t : ℕ) where
   all-loop-less-2 c = omega arith
 
   all-loop-again-2 : all-lts.Need-loop-again-2 (all-calls t) (all-given t) all.Post all-Inv all-μ
-  all-loop-again-2 c = c .before .before .before .before .before .before .before .before .before .loop .inv ∙ other-passes _ _ _ _ _ (c .before .before .before .before .before .before .before .before .before .loop .i) (omega arith) _ _ _ (sym (c .before .before .before .before .before .all .given .1) ∙ c .before .before .before .before .before .before .before .node-at .ensures .0) (not-true _ (c .before .before .before .if3 .taken)) (c .before .before .least .ensures) _ (c .before .one-holds .ensures) (not-false _ (c .if4 .left))
+  all-loop-again-2 c = c .before .before .before .before .before .before .before .before .before .loop .inv ∙ other-passes _ _ _ _ _ (c .before .before .before .before .before .before .before .before .before .loop .i) (omega arith) _ _ _ (sym (c .before .before .before .before .before .all .given .1) ∙ c .before .before .before .before .before .before .before .node-at .ensures .0) (not-true _ (c .before .before .before .if3 .taken)) (c .before .before .lesser .ensures) _ (c .before .one-holds .ensures) (not-false _ (c .if4 .left))
 
   all-loop-less-3 : all-lts.Need-loop-less-3 (all-calls t) (all-given t) all.Post all-Inv all-μ
   all-loop-less-3 c = omega arith
@@ -183,11 +183,11 @@ module _ (t : ℕ) where
   one-add-i-2 : one-lts.Need-add-i-2 (one-calls t) (one-given t) one.Post one-Inv one-μ
   one-add-i-2 c = omega (arith, c .before .before .before .before .before .before .before .before .fits .end)
 
-  one-add-least : one-lts.Need-add-least (one-calls t) (one-given t) one.Post one-Inv one-μ
-  one-add-least c = omega (arith, join-inside _ _ _ _ (sym (c .before .before .all .given .1) ∙ c .before .before .before .before .node-at .ensures .0), small _ _ _ (c .before .before .all .given .1) (c .before .before .before .before .node-at .ensures .1))
+  one-add-lesser : one-lts.Need-add-lesser (one-calls t) (one-given t) one.Post one-Inv one-μ
+  one-add-lesser c = omega (arith, join-inside _ _ _ _ (sym (c .before .before .all .given .1) ∙ c .before .before .before .before .node-at .ensures .0), small _ _ _ (c .before .before .all .given .1) (c .before .before .before .before .node-at .ensures .1))
 
-  one-least-requires : one-lts.Need-least-requires (one-calls t) (one-given t) one.Post one-Inv one-μ
-  one-least-requires c κs = search needs
+  one-lesser-requires : one-lts.Need-lesser-requires (one-calls t) (one-given t) one.Post one-Inv one-μ
+  one-lesser-requires c κs = search needs
 
   one-sub-all-hold : one-lts.Need-sub-all-hold (one-calls t) (one-given t) one.Post one-Inv one-μ
   one-sub-all-hold c = omega arith
@@ -196,7 +196,7 @@ module _ (t : ℕ) where
   one-all-hold-requires c κs = omega (arith, c .before .before .before .before .before .before .before .before .before .before .pre .0)
 
   one-returns-3 : one-lts.Need-returns-3 (one-calls t) (one-given t) one.Post one-Inv one-μ
-  one-returns-3 c = sym (c .before .before .before .before .before .before .before .before .before .loop .inv ∙ other-decides _ _ _ _ _ (c .before .before .before .before .before .before .before .before .before .loop .i) (omega arith) _ _ _ (sym (c .before .before .before .before .before .all .given .1) ∙ c .before .before .before .before .before .before .before .node-at .ensures .0) (c .before .before .before .if3 .taken) (c .before .before .least .ensures) _ (c .before .all-hold .ensures) (c .if4 .taken))
+  one-returns-3 c = sym (c .before .before .before .before .before .before .before .before .before .loop .inv ∙ other-decides _ _ _ _ _ (c .before .before .before .before .before .before .before .before .before .loop .i) (omega arith) _ _ _ (sym (c .before .before .before .before .before .all .given .1) ∙ c .before .before .before .before .before .before .before .node-at .ensures .0) (c .before .before .before .if3 .taken) (c .before .before .lesser .ensures) _ (c .before .all-hold .ensures) (c .if4 .taken))
 
   one-add-i-3 : one-lts.Need-add-i-3 (one-calls t) (one-given t) one.Post one-Inv one-μ
   one-add-i-3 c = omega (arith, join-inside _ _ _ _ (sym (c .before .before .before .before .before .all .given .1) ∙ c .before .before .before .before .before .before .before .node-at .ensures .0), small _ _ _ (c .before .before .before .before .before .all .given .1) (c .before .before .before .before .before .before .before .node-at .ensures .1))
@@ -205,7 +205,7 @@ module _ (t : ℕ) where
   one-loop-less-2 c = omega arith
 
   one-loop-again-2 : one-lts.Need-loop-again-2 (one-calls t) (one-given t) one.Post one-Inv one-μ
-  one-loop-again-2 c = c .before .before .before .before .before .before .before .before .before .loop .inv ∙ other-passes _ _ _ _ _ (c .before .before .before .before .before .before .before .before .before .loop .i) (omega arith) _ _ _ (sym (c .before .before .before .before .before .all .given .1) ∙ c .before .before .before .before .before .before .before .node-at .ensures .0) (c .before .before .before .if3 .taken) (c .before .before .least .ensures) _ (c .before .all-hold .ensures) (c .if4 .left)
+  one-loop-again-2 c = c .before .before .before .before .before .before .before .before .before .loop .inv ∙ other-passes _ _ _ _ _ (c .before .before .before .before .before .before .before .before .before .loop .i) (omega arith) _ _ _ (sym (c .before .before .before .before .before .all .given .1) ∙ c .before .before .before .before .before .before .before .node-at .ensures .0) (c .before .before .before .if3 .taken) (c .before .before .lesser .ensures) _ (c .before .all-hold .ensures) (c .if4 .left)
 
   one-loop-less-3 : one-lts.Need-loop-less-3 (one-calls t) (one-given t) one.Post one-Inv one-μ
   one-loop-less-3 c = omega arith
@@ -222,6 +222,6 @@ module _ (t : ℕ) where
 pub +all-hold+one-holds-spec : {M : Type 1} → statement M
 +all-hold+one-holds-spec = close μ-all μ-one
     (λ t. all-lts.spec (all-calls t) (all-given t) all.Post all-Inv all-μ
-    (all-of-words-requires t) (all-returns t) (all-loop-holds t) (all-node-at-requires t) (all-enum-known-positive t) (all-atom-holds-requires t) (all-returns-2 t) (all-add-i t) (all-loop-less t) (all-loop-again t) (all-enum-known-all t) (all-add-i-2 t) (all-add-least t) (all-least-requires t) (all-sub-one-holds t) (all-one-holds-requires t) (all-returns-3 t) (all-add-i-3 t) (all-loop-less-2 t) (all-loop-again-2 t) (all-loop-less-3 t) (all-loop-again-3 t) (all-returns-4 t) (all-returns-5 t))
+    (all-of-words-requires t) (all-returns t) (all-loop-holds t) (all-node-at-requires t) (all-enum-known-positive t) (all-atom-holds-requires t) (all-returns-2 t) (all-add-i t) (all-loop-less t) (all-loop-again t) (all-enum-known-all t) (all-add-i-2 t) (all-add-lesser t) (all-lesser-requires t) (all-sub-one-holds t) (all-one-holds-requires t) (all-returns-3 t) (all-add-i-3 t) (all-loop-less-2 t) (all-loop-again-2 t) (all-loop-less-3 t) (all-loop-again-3 t) (all-returns-4 t) (all-returns-5 t))
     (λ t. one-lts.spec (one-calls t) (one-given t) one.Post one-Inv one-μ
-    (one-of-words-requires t) (one-returns t) (one-loop-holds t) (one-node-at-requires t) (one-enum-known-positive t) (one-atom-holds-requires t) (one-returns-2 t) (one-add-i t) (one-loop-less t) (one-loop-again t) (one-enum-known-all t) (one-add-i-2 t) (one-add-least t) (one-least-requires t) (one-sub-all-hold t) (one-all-hold-requires t) (one-returns-3 t) (one-add-i-3 t) (one-loop-less-2 t) (one-loop-again-2 t) (one-loop-less-3 t) (one-loop-again-3 t) (one-returns-4 t) (one-returns-5 t))
+    (one-of-words-requires t) (one-returns t) (one-loop-holds t) (one-node-at-requires t) (one-enum-known-positive t) (one-atom-holds-requires t) (one-returns-2 t) (one-add-i t) (one-loop-less t) (one-loop-again t) (one-enum-known-all t) (one-add-i-2 t) (one-add-lesser t) (one-lesser-requires t) (one-sub-all-hold t) (one-all-hold-requires t) (one-returns-3 t) (one-add-i-3 t) (one-loop-less-2 t) (one-loop-again-2 t) (one-loop-less-3 t) (one-loop-again-3 t) (one-returns-4 t) (one-returns-5 t))
