@@ -1,6 +1,6 @@
 -- Laws of the machine: what is known, what holds, and where the program settles. Assumes nothing.
 use Prim.Native.Nat.{ℕ, zero, suc, _+_, _-_, _≤_, _<_, min}
-use mathlib.Core.Path.{_≡_, refl, sym, ap, _∙_}
+use mathlib.Core.Path.{_≡_, refl, sym, ap, subst, _∙_}
 use mathlib.Core.List.{List, [], _∷_}
 use mathlib.Core.Bool.{Bool, true, false, not, _&&_, Bool·beq}
 use mathlib.Core.Logic.{_⊎_, ⊎-elim, inl, inr}
@@ -278,18 +278,12 @@ module _ (nodes : List ℕ) (isKnown : ℕ → Bool) where
   unfolding formulaNode
   join-holds i all size e = holds-by i (Node.Join all size) e
 
-  -- The parts of an "and" hold where it does; an "or" is the only part of an "and".
-  pub and-holds : (i : ℕ) (all : Bool) (size : ℕ) → Node.Join all size ≡ nodeAt nodes i → (first left : ℕ)
-      → ((all ≡ true) × (first ≡ i + 1) × (left ≡ deepest - 1)) ⊎ ((all ≡ false) × (first ≡ i) × (left ≡ deepest)) → partsHold nodes isKnown left true (i + 1 + size - first) first ≡ holdsAt nodes isKnown i
-  and-holds i all size e first left (inl (a, f, l)) =
-      let n : i + 1 + size - first ≡ size = omega arith in
-      (λ j. partsHold nodes isKnown (l j) (sym a j) (n j) (f j)) ∙ join-holds i all size e
-  and-holds i all size e first left (inr (a, f, l)) =
+  -- The same, of the nodes to an end, where the connective is told apart from the node.
+  pub parts-told : (i : ℕ) (all : Bool) (size : ℕ) → Node.Join all size ≡ nodeAt nodes i → (told : Bool) → told ≡ all
+      → partsHold nodes isKnown (deepest - 1) told (i + 1 + size - (i + 1)) (i + 1) ≡ holdsAt nodes isKnown i
+  parts-told i all size e told t =
       let n : i + 1 + size - (i + 1) ≡ size = omega arith in
-      (λ j. partsHold nodes isKnown (l j) true (i + 1 + size - f j) (f j)) ∙ parts-to deepest true (i + 1 + size) i (omega arith)
-      ∙ other-is deepest true (i + 1 + size) i (omega arith) all size (i + 1 + size) e a (omega arith) _ refl
-      ∙ ap (joined true (partsHold nodes isKnown (deepest - 1) false (i + 1 + size - (i + 1)) (i + 1))) (none-left deepest true (i + 1 + size) (i + 1 + size) (omega arith)) ∙ joined-none true _
-      ∙ (λ j. partsHold nodes isKnown (deepest - 1) (sym a j) (n j) (i + 1)) ∙ join-holds i all size e
+      (λ j. partsHold nodes isKnown (deepest - 1) (t j) (n j) (i + 1)) ∙ join-holds i all size e
 
   pub no-formula : (i : ℕ) (x : Node) → x ≡ nodeAt nodes i → OneOf (0 ∷ 1 ∷ 2 ∷ 3 ∷ []) (tagOf the-type x) → false ≡ holdsAt nodes isKnown i
   no-formula i x e t = sym (not-formula isKnown (λ all size. partsHold nodes isKnown (deepest - 1) all size (i + 1)) x t) ∙ holds-by i x e
@@ -334,6 +328,38 @@ at-end formula (Node.Jump skip) i onward t = absurd (none-of-program 2 (omega ar
 at-end formula (Node.End count) i onward t = refl
 at-end formula (Node.Join all size) i onward t = refl
 at-end formula (Node.Atom positive k) i onward t = refl
+
+-- Where a formula is asked for: behind a branch, or at the goal's node by a node that is none. `node` is the node as it is told again.
+abbrev pub AskedFor : (found node : Node) (i asked : ℕ) → Type 0
+AskedFor found node i asked =
+    ((m : ℕ) × (u : ℕ) × (found ≡ Node.Branch m u) × (node ≡ Node.Branch m u) × (asked ≡ i + 1)) ⊎ (OneOf (0 ∷ 2 ∷ 3 ∷ 4 ∷ 5 ∷ []) (tagOf the-type found) × (node ≡ found) × (asked ≡ goalNode))
+
+no-branch : (x : Node) (m u : ℕ) → x ≡ Node.Branch m u → OneOf (0 ∷ 2 ∷ 3 ∷ 4 ∷ 5 ∷ []) (tagOf the-type x) → ⊥
+no-branch x m u e t = none 1 (omega arith) (subst (λ (y : Node). OneOf (0 ∷ 2 ∷ 3 ∷ 4 ∷ 5 ∷ []) (tagOf the-type y)) e t)
+  where
+    none : (n : ℕ) → n ≡ 1 → OneOf (0 ∷ 2 ∷ 3 ∷ 4 ∷ 5 ∷ []) n → ⊥
+    none n h (inl e) = omega arith
+    none n h (inr (inl e)) = omega arith
+    none n h (inr (inr (inl e))) = omega arith
+    none n h (inr (inr (inr (inl e)))) = omega arith
+    none n h (inr (inr (inr (inr e)))) = omega arith
+
+pub branch-asks : (found node : Node) (i asked met unmet : ℕ) → AskedFor found node i asked → node ≡ Node.Branch met unmet → (Node.Branch met unmet ≡ found) × (asked ≡ i + 1)
+branch-asks found node i asked met unmet (inl (m, u, f, e, a)) n = (sym n ∙ e ∙ sym f, a)
+branch-asks found node i asked met unmet (inr (t, e, a)) n = absurd (no-branch found met unmet (sym e ∙ n) t)
+
+pub end-asks : (found node : Node) (i asked : ℕ) → AskedFor found node i asked → OneOf (1 ∷ 3 ∷ 4 ∷ 5 ∷ []) (tagOf the-type found) → OneOf (0 ∷ 2 ∷ 3 ∷ 4 ∷ 5 ∷ []) (tagOf the-type node)
+    → OneOf (3 ∷ 4 ∷ 5 ∷ []) (tagOf the-type found) × (asked ≡ goalNode)
+end-asks found node i asked (inl (m, u, f, e, a)) k t = absurd (no-branch node m u e t)
+end-asks found node i asked (inr (t, e, a)) k n = (both (tagOf the-type found) k t, a)
+  where
+    both : (n : ℕ) → OneOf (1 ∷ 3 ∷ 4 ∷ 5 ∷ []) n → OneOf (0 ∷ 2 ∷ 3 ∷ 4 ∷ 5 ∷ []) n → OneOf (3 ∷ 4 ∷ 5 ∷ []) n
+    both n (inr l) t = l
+    both n (inl e) (inl d) = absurd (omega arith)
+    both n (inl e) (inr (inl d)) = absurd (omega arith)
+    both n (inl e) (inr (inr (inl d))) = absurd (omega arith)
+    both n (inl e) (inr (inr (inr (inl d)))) = absurd (omega arith)
+    both n (inl e) (inr (inr (inr (inr d)))) = absurd (omega arith)
 
 -- What is known in a set: no state of it is outside the other set.
 module _ (sets : List ℕ) (set : States) (k : ℕ) where

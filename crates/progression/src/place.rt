@@ -27,11 +27,16 @@ pub fn known(sets: &[u64; SET_WORDS], k: usize, set: States) -> bool
     set.difference(set_at(sets, k)).is_empty()
 }
 
-// Whether an atom, "known" or "not known" of set k, holds where the states of a set are possible.
-fn atom_holds(sets: &[u64; SET_WORDS], set: States, positive: bool, k: usize) -> bool
-    ensures { λ r. ⌜ r ≡ atomHolds (knownBy (now (sets .entry)) set) positive k ⌝ }
+// Whether an atom, "known" or "not known" of set k, holds where the states of a set are possible, whose words are lent.
+fn atom_holds(
+    sets: &[u64; SET_WORDS],
+    words: &[u64; States::WORDS],
+    positive: bool,
+    k: usize,
+) -> bool
+    ensures { λ r. ⌜ r ≡ atomHolds (knownBy (now (sets .entry)) (ofWords (now (words .entry)))) positive k ⌝ }
 {
-    known(sets, k, set) == positive
+    known(sets, k, States::of_words(words)) == positive
 }
 
 // The lesser of two numbers.
@@ -60,7 +65,7 @@ fn all_hold(
 ) -> bool
     ensures { λ r. ⌜ r ≡ partsHold (now (nodes .entry)) (knownBy (now (sets .entry)) (ofWords (now (words .entry)))) left true (end - at) at ⌝ }
 {
-    let set = States::of_words(words);
+    let own = *words;
     if left == 0 {
         return false;
     }
@@ -68,7 +73,7 @@ fn all_hold(
     while i < end {
         match node_at(nodes, i) {
             Node::Atom(positive, k) => {
-                if !atom_holds(sets, set, positive, k) {
+                if !atom_holds(sets, &own, positive, k) {
                     return false;
                 }
                 i = i + 1;
@@ -103,7 +108,6 @@ fn one_holds(
 ) -> bool
     ensures { λ r. ⌜ r ≡ partsHold (now (nodes .entry)) (knownBy (now (sets .entry)) (ofWords (now (words .entry)))) left false (end - at) at ⌝ }
 {
-    let set = States::of_words(words);
     if left == 0 {
         return false;
     }
@@ -111,7 +115,7 @@ fn one_holds(
     while i < end {
         match node_at(nodes, i) {
             Node::Atom(positive, k) => {
-                if atom_holds(sets, set, positive, k) {
+                if atom_holds(sets, words, positive, k) {
                     return true;
                 }
                 i = i + 1;
@@ -134,49 +138,57 @@ fn one_holds(
     false
 }
 
-// Whether the formula at node `at` holds where the states of a set are possible. If "and" joins its parts they are judged,
-// each with one level less than the formula; else the formula is, as the only part of an "and".
-fn formula_holds(nodes: &[u16; NODE_CELLS], sets: &[u64; SET_WORDS], set: States, at: usize) -> bool
-    ensures { λ r. ⌜ r ≡ holdsAt (now (nodes .entry)) (knownBy (now (sets .entry)) set) at ⌝ }
+// Whether the formula at node `at` holds where the states of a set are possible, whose words are lent.
+fn formula_holds(
+    nodes: &[u16; NODE_CELLS],
+    sets: &[u64; SET_WORDS],
+    words: &[u64; States::WORDS],
+    at: usize,
+) -> bool
+    ensures { λ r. ⌜ r ≡ holdsAt (now (nodes .entry)) (knownBy (now (sets .entry)) (ofWords (now (words .entry)))) at ⌝ }
 {
     match node_at(nodes, at) {
-        Node::Atom(positive, k) => atom_holds(sets, set, positive, k),
+        Node::Atom(positive, k) => atom_holds(sets, words, positive, k),
         Node::Join(all, size) => {
-            let mut first = at;
-            let mut left = DEPTH;
             if all {
-                first = at + 1;
-                left = DEPTH - 1;
+                return all_hold(nodes, sets, words, at + 1, at + 1 + size, DEPTH - 1);
             }
-            let words = set.words();
-            all_hold(nodes, sets, &words, first, at + 1 + size, left)
+            one_holds(nodes, sets, words, at + 1, at + 1 + size, DEPTH - 1)
         }
         _ => false,
     }
 }
 
-// The place that the program reaches from node `at` on, where the states of a set are possible.
+// The place that the program reaches from node `at` on, where the states of a set are possible. (A branch and the end ask
+// for their formula at one place, so that the compiler has it there and the caller not: docs/PERFORMANCE.md.)
 pub fn settle(nodes: &[u16; NODE_CELLS], sets: &[u64; SET_WORDS], set: States, at: usize) -> Place
     ensures { λ r. ⌜ (r ≡ settled (now (nodes .entry)) (now (sets .entry)) set at) × Inside r ⌝ }
 {
+    let words = set.words();
     let mut i = at;
     while i < NODES {
-        match node_at(nodes, i) {
+        let node = node_at(nodes, i);
+        match node {
             Node::Act(a, number) => {
                 return Place::Act(i, a);
-            }
-            Node::Branch(met, unmet) => {
-                if formula_holds(nodes, sets, set, i + 1) {
-                    i = i + 1 + met;
-                } else {
-                    i = i + 1 + unmet;
-                }
             }
             Node::Jump(skip) => {
                 i = i + 1 + skip;
             }
             _ => {
-                return Place::End(formula_holds(nodes, sets, set, GOAL));
+                let mut asked = GOAL;
+                if let Node::Branch(met, unmet) = node {
+                    asked = i + 1;
+                }
+                let holds = formula_holds(nodes, sets, &words, asked);
+                let Node::Branch(met, unmet) = node else {
+                    return Place::End(holds);
+                };
+                if holds {
+                    i = i + 1 + met;
+                } else {
+                    i = i + 1 + unmet;
+                }
             }
         }
     }

@@ -1,21 +1,18 @@
 -- `progression::place::all_hold` and `one_holds` meet their contracts. Each loop's invariant: the parts from the first node on hold as those from node i on. The measure
 -- of the recursion is the levels left. Assumes nothing.
 use Prim.Native.Nat.{ℕ, _-_, _<_}
-use mathlib.Core.Path.{_≡_, sym, ap, subst, _∙_}
+use mathlib.Core.Path.{_≡_, sym, subst, _∙_}
 use mathlib.Core.Bool.{Bool, true, false}
-use mathlib.Core.List.{List}
 use native.Mathlib.Omega.{arith}
 use borrow.Author.Needs.{needs}
 use borrow.Author.Tests.{not-true, not-false}
 use borrow.Fn.Kinds.{In}
 use borrow.Fn.PlainCycle.{Measures, is, falls, and}
-use Rattle.states.specs.declared.States.{States}
 use Rattle.states.specs.Sets.{ofWords}
-use Rattle.states.proofs.States.of_words.Reads as of-words
 use Rattle.routine.specs.declared.memory.Node.{Node}
 use Rattle.routine.specs.Memory.{Small}
 use Rattle.routine.proofs.node_at.Reads as node-at
-use Rattle.progression.specs.Machine.{knownBy, atomHolds, partsHold}
+use Rattle.progression.specs.Machine.{knownBy, partsHold}
 use Rattle.progression.proofs.MachineLaws.{parts-none, parts-to, partsLeft, atom-decides, atom-passes, alike-passes, other-decides, other-passes, none-stands, none-left, join-inside}
 use Rattle.progression.proofs.place.atom_holds.Reads as atom
 use Rattle.progression.proofs.place.lesser.Reads as lesser
@@ -32,11 +29,6 @@ use Rattle.progression.proofs.place.+all_hold+one_holds.Tie.{close}
 small : (x : Node) (both : Bool) (inner : ℕ) → x ≡ Node.Join both inner → Small x → inner < 65536
 unfolding Small
 small x both inner e s = subst Small e s
-
--- What is told of an atom by a set is told by the words that it is.
-by-words : (sets words : List ℕ) (set : States) → set ≡ ofWords words → (positive : Bool) (k : ℕ) (holds : Bool) → holds ≡ atomHolds (knownBy sets set) positive k
-    → holds ≡ atomHolds (knownBy sets (ofWords words)) positive k
-by-words sets words set e positive k holds t = t ∙ ap (λ (s : States). atomHolds (knownBy sets s) positive k) e
 
 abbrev μ-all : Measures 3 all-kinds.ps ℕ
 μ-all κs a = a .1 .1 .1 .1 .1 .0
@@ -57,27 +49,24 @@ abbrev one-below : ℕ → In 3 one-kinds.ps
 one-below t = and 3 one-kinds.ps (falls 3 one-kinds.ps _<_ μ-one t) one.Pre
 
 abbrev all-calls : ℕ → all-lts.Claims
-all-calls t = (of-words.Asked, of-words.Learnt, node-at.Asked, node-at.Learnt, atom.Asked, atom.Learnt, lesser.Asked, lesser.Learnt, one-below t, one.Post)
+all-calls t = (node-at.Asked, node-at.Learnt, atom.Asked, atom.Learnt, lesser.Asked, lesser.Learnt, one-below t, one.Post)
 
 abbrev all-Inv : all-lts.InvT-loop
-all-Inv nodes sets words at end left set i₀ i = partsHold nodes (knownBy sets (ofWords words)) left true (end - at) at ≡ partsLeft nodes (knownBy sets (ofWords words)) left true end i
+all-Inv nodes sets words at end left own i₀ i = partsHold nodes (knownBy sets (ofWords words)) left true (end - at) at ≡ partsLeft nodes (knownBy sets (ofWords words)) left true end i
 
 abbrev all-μ : all-lts.MeasureT-loop
-all-μ nodes sets words at end left set i₀ i = end - i
+all-μ nodes sets words at end left own i₀ i = end - i
 
 abbrev one-calls : ℕ → one-lts.Claims
-one-calls t = (of-words.Asked, of-words.Learnt, node-at.Asked, node-at.Learnt, atom.Asked, atom.Learnt, lesser.Asked, lesser.Learnt, all-below t, all.Post)
+one-calls t = (node-at.Asked, node-at.Learnt, atom.Asked, atom.Learnt, lesser.Asked, lesser.Learnt, all-below t, all.Post)
 
 abbrev one-Inv : one-lts.InvT-loop
-one-Inv nodes sets words at end left set i₀ i = partsHold nodes (knownBy sets (ofWords words)) left false (end - at) at ≡ partsLeft nodes (knownBy sets (ofWords words)) left false end i
+one-Inv nodes sets words at end left i₀ i = partsHold nodes (knownBy sets (ofWords words)) left false (end - at) at ≡ partsLeft nodes (knownBy sets (ofWords words)) left false end i
 
 abbrev one-μ : one-lts.MeasureT-loop
-one-μ nodes sets words at end left set i₀ i = end - i
+one-μ nodes sets words at end left i₀ i = end - i
 
 module _ (t : ℕ) where
-  all-of-words-requires : all-lts.Need-of-words-requires (all-calls t) (all-given t) all.Post all-Inv all-μ
-  all-of-words-requires c κs = search needs
-
   all-returns : all-lts.Need-returns (all-calls t) (all-given t) all.Post all-Inv all-μ
   all-returns c = parts-none _ _ _ _ _ _ (c .if1 .taken)
 
@@ -94,16 +83,16 @@ module _ (t : ℕ) where
   all-atom-holds-requires c κs = search needs
 
   all-returns-2 : all-lts.Need-returns-2 (all-calls t) (all-given t) all.Post all-Inv all-μ
-  all-returns-2 c = sym (c .before .before .before .before .before .before .before .loop .inv ∙ atom-decides _ _ _ _ _ (c .before .before .before .before .before .before .before .loop .i) (omega arith) _ _ (sym (c .before .before .before .positive .given .1) ∙ c .before .before .before .before .before .node-at .ensures .0) _ (by-words _ _ _ (c .before .before .before .before .before .before .before .before .before .of-words .ensures) _ _ _ (c .before .atom-holds .ensures)) (not-true _ (c .if2 .taken)))
+  all-returns-2 c = sym (c .before .before .before .before .before .before .before .before .loop .inv ∙ atom-decides _ _ _ _ _ (c .before .before .before .before .before .before .before .before .loop .i) (omega arith) _ _ (sym (c .before .before .before .before .positive .given .1) ∙ c .before .before .before .before .before .before .node-at .ensures .0) _ (c .before .atom-holds .ensures) (not-true _ (c .if2 .taken)))
 
   all-add-i : all-lts.Need-add-i (all-calls t) (all-given t) all.Post all-Inv all-μ
-  all-add-i c = omega (arith, c .before .before .before .before .before .before .before .before .before .before .fits .end)
+  all-add-i c = omega (arith, c .before .before .before .before .before .before .before .before .before .before .before .fits .end)
 
   all-loop-less : all-lts.Need-loop-less (all-calls t) (all-given t) all.Post all-Inv all-μ
   all-loop-less c = omega arith
 
   all-loop-again : all-lts.Need-loop-again (all-calls t) (all-given t) all.Post all-Inv all-μ
-  all-loop-again c = c .before .before .before .before .before .before .before .loop .inv ∙ atom-passes _ _ _ _ _ (c .before .before .before .before .before .before .before .loop .i) (omega arith) _ _ (sym (c .before .before .before .positive .given .1) ∙ c .before .before .before .before .before .node-at .ensures .0) _ (by-words _ _ _ (c .before .before .before .before .before .before .before .before .before .of-words .ensures) _ _ _ (c .before .atom-holds .ensures)) (not-false _ (c .if2 .left))
+  all-loop-again c = c .before .before .before .before .before .before .before .before .loop .inv ∙ atom-passes _ _ _ _ _ (c .before .before .before .before .before .before .before .before .loop .i) (omega arith) _ _ (sym (c .before .before .before .before .positive .given .1) ∙ c .before .before .before .before .before .before .node-at .ensures .0) _ (c .before .atom-holds .ensures) (not-false _ (c .if2 .left))
 
   all-enum-known-all : all-lts.Need-enum-known-all (all-calls t) (all-given t) all.Post all-Inv all-μ
   all-enum-known-all c = search needs
@@ -147,9 +136,6 @@ module _ (t : ℕ) where
   all-returns-5 : all-lts.Need-returns-5 (all-calls t) (all-given t) all.Post all-Inv all-μ
   all-returns-5 c = sym (c .before .loop .inv ∙ none-left _ _ _ _ _ (c .before .loop .i) (omega arith))
 
-  one-of-words-requires : one-lts.Need-of-words-requires (one-calls t) (one-given t) one.Post one-Inv one-μ
-  one-of-words-requires c κs = search needs
-
   one-returns : one-lts.Need-returns (one-calls t) (one-given t) one.Post one-Inv one-μ
   one-returns c = parts-none _ _ _ _ _ _ (c .if1 .taken)
 
@@ -166,22 +152,22 @@ module _ (t : ℕ) where
   one-atom-holds-requires c κs = search needs
 
   one-returns-2 : one-lts.Need-returns-2 (one-calls t) (one-given t) one.Post one-Inv one-μ
-  one-returns-2 c = sym (c .before .before .before .before .before .before .before .loop .inv ∙ atom-decides _ _ _ _ _ (c .before .before .before .before .before .before .before .loop .i) (omega arith) _ _ (sym (c .before .before .before .positive .given .1) ∙ c .before .before .before .before .before .node-at .ensures .0) _ (by-words _ _ _ (c .before .before .before .before .before .before .before .before .before .of-words .ensures) _ _ _ (c .before .atom-holds .ensures)) (c .if2 .taken))
+  one-returns-2 c = sym (c .before .before .before .before .before .before .before .loop .inv ∙ atom-decides _ _ _ _ _ (c .before .before .before .before .before .before .before .loop .i) (omega arith) _ _ (sym (c .before .before .before .positive .given .1) ∙ c .before .before .before .before .before .node-at .ensures .0) _ (c .before .atom-holds .ensures) (c .if2 .taken))
 
   one-add-i : one-lts.Need-add-i (one-calls t) (one-given t) one.Post one-Inv one-μ
-  one-add-i c = omega (arith, c .before .before .before .before .before .before .before .before .before .before .fits .end)
+  one-add-i c = omega (arith, c .before .before .before .before .before .before .before .before .before .fits .end)
 
   one-loop-less : one-lts.Need-loop-less (one-calls t) (one-given t) one.Post one-Inv one-μ
   one-loop-less c = omega arith
 
   one-loop-again : one-lts.Need-loop-again (one-calls t) (one-given t) one.Post one-Inv one-μ
-  one-loop-again c = c .before .before .before .before .before .before .before .loop .inv ∙ atom-passes _ _ _ _ _ (c .before .before .before .before .before .before .before .loop .i) (omega arith) _ _ (sym (c .before .before .before .positive .given .1) ∙ c .before .before .before .before .before .node-at .ensures .0) _ (by-words _ _ _ (c .before .before .before .before .before .before .before .before .before .of-words .ensures) _ _ _ (c .before .atom-holds .ensures)) (c .if2 .left)
+  one-loop-again c = c .before .before .before .before .before .before .before .loop .inv ∙ atom-passes _ _ _ _ _ (c .before .before .before .before .before .before .before .loop .i) (omega arith) _ _ (sym (c .before .before .before .positive .given .1) ∙ c .before .before .before .before .before .node-at .ensures .0) _ (c .before .atom-holds .ensures) (c .if2 .left)
 
   one-enum-known-all : one-lts.Need-enum-known-all (one-calls t) (one-given t) one.Post one-Inv one-μ
   one-enum-known-all c = search needs
 
   one-add-i-2 : one-lts.Need-add-i-2 (one-calls t) (one-given t) one.Post one-Inv one-μ
-  one-add-i-2 c = omega (arith, c .before .before .before .before .before .before .before .before .fits .end)
+  one-add-i-2 c = omega (arith, c .before .before .before .before .before .before .before .fits .end)
 
   one-add-lesser : one-lts.Need-add-lesser (one-calls t) (one-given t) one.Post one-Inv one-μ
   one-add-lesser c = omega (arith, join-inside _ _ _ _ (sym (c .before .before .all .given .1) ∙ c .before .before .before .before .node-at .ensures .0), small _ _ _ (c .before .before .all .given .1) (c .before .before .before .before .node-at .ensures .1))
@@ -193,7 +179,7 @@ module _ (t : ℕ) where
   one-sub-all-hold c = omega arith
 
   one-all-hold-requires : one-lts.Need-all-hold-requires (one-calls t) (one-given t) one.Post one-Inv one-μ
-  one-all-hold-requires c κs = omega (arith, c .before .before .before .before .before .before .before .before .before .before .pre .0)
+  one-all-hold-requires c κs = omega (arith, c .before .before .before .before .before .before .before .before .before .pre .0)
 
   one-returns-3 : one-lts.Need-returns-3 (one-calls t) (one-given t) one.Post one-Inv one-μ
   one-returns-3 c = sym (c .before .before .before .before .before .before .before .before .before .loop .inv ∙ other-decides _ _ _ _ _ (c .before .before .before .before .before .before .before .before .before .loop .i) (omega arith) _ _ _ (sym (c .before .before .before .before .before .all .given .1) ∙ c .before .before .before .before .before .before .before .node-at .ensures .0) (c .before .before .before .if3 .taken) (c .before .before .lesser .ensures) _ (c .before .all-hold .ensures) (c .if4 .taken))
@@ -222,6 +208,6 @@ module _ (t : ℕ) where
 pub +all-hold+one-holds-spec : {M : Type 1} → statement M
 +all-hold+one-holds-spec = close μ-all μ-one
     (λ t. all-lts.spec (all-calls t) (all-given t) all.Post all-Inv all-μ
-    (all-of-words-requires t) (all-returns t) (all-loop-holds t) (all-node-at-requires t) (all-enum-known-positive t) (all-atom-holds-requires t) (all-returns-2 t) (all-add-i t) (all-loop-less t) (all-loop-again t) (all-enum-known-all t) (all-add-i-2 t) (all-add-lesser t) (all-lesser-requires t) (all-sub-one-holds t) (all-one-holds-requires t) (all-returns-3 t) (all-add-i-3 t) (all-loop-less-2 t) (all-loop-again-2 t) (all-loop-less-3 t) (all-loop-again-3 t) (all-returns-4 t) (all-returns-5 t))
+    (all-returns t) (all-loop-holds t) (all-node-at-requires t) (all-enum-known-positive t) (all-atom-holds-requires t) (all-returns-2 t) (all-add-i t) (all-loop-less t) (all-loop-again t) (all-enum-known-all t) (all-add-i-2 t) (all-add-lesser t) (all-lesser-requires t) (all-sub-one-holds t) (all-one-holds-requires t) (all-returns-3 t) (all-add-i-3 t) (all-loop-less-2 t) (all-loop-again-2 t) (all-loop-less-3 t) (all-loop-again-3 t) (all-returns-4 t) (all-returns-5 t))
     (λ t. one-lts.spec (one-calls t) (one-given t) one.Post one-Inv one-μ
-    (one-of-words-requires t) (one-returns t) (one-loop-holds t) (one-node-at-requires t) (one-enum-known-positive t) (one-atom-holds-requires t) (one-returns-2 t) (one-add-i t) (one-loop-less t) (one-loop-again t) (one-enum-known-all t) (one-add-i-2 t) (one-add-lesser t) (one-lesser-requires t) (one-sub-all-hold t) (one-all-hold-requires t) (one-returns-3 t) (one-add-i-3 t) (one-loop-less-2 t) (one-loop-again-2 t) (one-loop-less-3 t) (one-loop-again-3 t) (one-returns-4 t) (one-returns-5 t))
+    (one-returns t) (one-loop-holds t) (one-node-at-requires t) (one-enum-known-positive t) (one-atom-holds-requires t) (one-returns-2 t) (one-add-i t) (one-loop-less t) (one-loop-again t) (one-enum-known-all t) (one-add-i-2 t) (one-add-lesser t) (one-lesser-requires t) (one-sub-all-hold t) (one-all-hold-requires t) (one-returns-3 t) (one-add-i-3 t) (one-loop-less-2 t) (one-loop-again-2 t) (one-loop-less-3 t) (one-loop-again-3 t) (one-returns-4 t) (one-returns-5 t))

@@ -1,19 +1,19 @@
 -- `progression::place::formula_holds` meets its contract: by the law of the node that stands there. Assumes nothing.
-use Prim.Native.Nat.{_+_, _-_, _<_}
-use mathlib.Core.Path.{sym, ap, subst, _∙_}
-use mathlib.Core.Bool.{true}
-use mathlib.Core.Logic.{⊎-elim, inl, inr}
+use Prim.Native.Nat.{ℕ, _+_, _-_, _<_}
+use mathlib.Core.Path.{_≡_, sym, subst, _∙_}
+use mathlib.Core.Bool.{Bool}
 use native.Mathlib.Omega.{arith}
 use borrow.Author.Needs.{needs}
-use denote.Ref.{now}
-use Rattle.states.specs.declared.States.{States}
-use Rattle.states.specs.Sets.{ofWords}
-use Rattle.states.proofs.SetLaws.{words-back}
-use Rattle.routine.specs.Memory.{Small}
-use Rattle.progression.specs.Machine.{knownBy, partsHold}
-use Rattle.progression.proofs.MachineLaws.{atom-holds, and-holds, join-inside, no-formula}
+use Rattle.routine.specs.declared.memory.Node.{Node}
+use Rattle.routine.specs.Memory.{Small, nodeMost, nodeAt}
+use Rattle.progression.proofs.MachineLaws.{atom-holds, parts-told, join-inside, no-formula}
 use Rattle.progression.proofs.place.formula_holds.Statement.{statement}
 use Rattle.progression.proofs.place.formula_holds.Tie as tie
+
+-- A node that joins parts stands inside the memory, and its size is small.
+inside : (c : tie.After-known-told2) → (c .before .before .before .before .args .at < nodeMost) × (c .before .all .given .0 .1 .0 < 65536)
+unfolding Small
+inside c = (join-inside _ _ _ _ (sym (c .before .all .given .1) ∙ c .before .before .before .node-at .ensures .0), subst Small (c .before .all .given .1) (c .before .before .before .node-at .ensures .1))
 
 node-at-requires : tie.Need-node-at-requires
 node-at-requires c κs = search needs
@@ -27,44 +27,53 @@ atom-holds-requires c κs = search needs
 enum-known-all : tie.Need-enum-known-all
 enum-known-all c = search needs
 
-add-first : tie.Need-add-first
-add-first c = omega (arith, join-inside _ _ _ _ (sym (c .before .before .all .given .1) ∙ c .before .before .before .before .node-at .ensures .0))
-
-sub-left : tie.Need-sub-left
-sub-left c = search needs
-
-words-requires : tie.Need-words-requires
-words-requires c κs = search needs
-
 add-all-hold : tie.Need-add-all-hold
-add-all-hold c = omega (arith, join-inside _ _ _ _ (sym (c .before .before .before .before .all .given .1) ∙ c .before .before .before .before .before .before .node-at .ensures .0))
+add-all-hold c = omega (arith, inside (c .before))
 
 add-all-hold-2 : tie.Need-add-all-hold-2
-unfolding Small
-add-all-hold-2 c =
-    let s : c .before .before .before .before .all .given .0 .1 .0 < 65536 = subst Small (c .before .before .before .before .all .given .1) (c .before .before .before .before .before .before .node-at .ensures .1) in
-    omega (arith, join-inside _ _ _ _ (sym (c .before .before .before .before .all .given .1) ∙ c .before .before .before .before .before .before .node-at .ensures .0))
+add-all-hold-2 c = omega (arith, inside (c .before))
+
+add-all-hold-3 : tie.Need-add-all-hold-3
+add-all-hold-3 c = omega (arith, inside (c .before))
+
+sub-all-hold : tie.Need-sub-all-hold
+sub-all-hold c = search needs
 
 all-hold-requires : tie.Need-all-hold-requires
 all-hold-requires c κs = search needs
 
 returns : tie.Need-returns
-returns c = c .atom-holds .ensures ∙ atom-holds _ _ _ _ _ (sym (c .before .before .positive .given .1) ∙ c .before .before .before .before .node-at .ensures .0)
+returns c =
+    c .all-hold .ensures
+    ∙ parts-told _ _ _ _ _ (sym (c .before .before .before .all .given .1) ∙ c .before .before .before .before .before .node-at .ensures .0) _ (sym (c .before .if1 .taken))
+
+add-one-holds : tie.Need-add-one-holds
+add-one-holds c = omega (arith, inside (c .before))
+
+add-one-holds-2 : tie.Need-add-one-holds-2
+add-one-holds-2 c = omega (arith, inside (c .before))
+
+add-one-holds-3 : tie.Need-add-one-holds-3
+add-one-holds-3 c = omega (arith, inside (c .before))
+
+sub-one-holds : tie.Need-sub-one-holds
+sub-one-holds c = search needs
+
+one-holds-requires : tie.Need-one-holds-requires
+one-holds-requires c κs = search needs
 
 returns-2 : tie.Need-returns-2
-returns-2 c =
-    let a = c .before .before .before .before .before .before .before .before .args in
-    let met = c .before .before .before .if1 in
-    let size = c .before .before .before .before .before .all .given .0 .1 .0 in
-    c .all-hold .ensures
-    ∙ ap (λ (s : States). partsHold (now (a .nodes)) (knownBy (now (a .sets)) s) (met .left) true (a .at + 1 + size - met .first) (met .first)) (ap ofWords (c .before .before .words .ensures) ∙ words-back (a .set))
-    ∙ and-holds _ _ _ _ _ (sym (c .before .before .before .before .before .all .given .1) ∙ c .before .before .before .before .before .before .before .node-at .ensures .0) (met .first) (met .left)
-    (⊎-elim (λ w. inl (w .0 .taken, w .1, w .2)) (λ w. inr (w .0 .left, w .1, w .2)) (met .came))
+returns-2 c = c .atom-holds .ensures ∙ atom-holds _ _ _ _ _ (sym (c .before .before .positive .given .1) ∙ c .before .before .before .before .node-at .ensures .0)
 
 returns-3 : tie.Need-returns-3
-returns-3 c = no-formula _ _ _ _ (c .before .node-at .ensures .0) (c .match .keys3)
+returns-3 c =
+    c .one-holds .ensures
+    ∙ parts-told _ _ _ _ _ (sym (c .before .before .before .all .given .1) ∙ c .before .before .before .before .before .node-at .ensures .0) _ (sym (c .before .if1 .left))
+
+returns-4 : tie.Need-returns-4
+returns-4 c = no-formula _ _ _ _ (c .before .node-at .ensures .0) (c .match .keys3)
 
 pub formula-holds-spec : {M : Type 1} → statement M
 formula-holds-spec =
     tie.close
-    (tie.spec node-at-requires enum-known-positive atom-holds-requires enum-known-all add-first sub-left words-requires add-all-hold add-all-hold-2 all-hold-requires returns returns-2 returns-3)
+    (tie.spec node-at-requires enum-known-positive atom-holds-requires enum-known-all add-all-hold add-all-hold-2 add-all-hold-3 sub-all-hold all-hold-requires returns add-one-holds add-one-holds-2 add-one-holds-3 sub-one-holds one-holds-requires returns-2 returns-3 returns-4)
