@@ -131,7 +131,7 @@ module _ (node : ℕ → Node) (isKnown : ℕ → Bool) (all : Bool) (inner : (s
   part-same most i (Node.End count) h = refl
 
   -- The parts from node i to an end.
-  abbrev pub partsTo : (end i : ℕ) → Bool
+  abbrev partsTo : (end i : ℕ) → Bool
   partsTo end i = partsIn node isKnown all inner (end - i) 0 i
 
   parts-by : (end i : ℕ) → i < end → (x : Node) → x ≡ node i → partsTo end i ≡ partNode isKnown all (λ n. inner (min n (end - (i + 1))) (i + 1)) (λ skip. partsTo end (i + 1 + skip)) x
@@ -142,7 +142,7 @@ module _ (node : ℕ → Node) (isKnown : ℕ → Bool) (all : Bool) (inner : (s
       ∙ part-same (end - (i + 1)) i x (λ skip. parts-skipped (end - (i + 1)) skip (suc i) (end - (i + 1 + skip)) (i + 1 + skip) (omega arith) (omega arith))
 
   -- Behind the last there is no part that fails of all, and none that holds of some.
-  pub parts-past : (end i : ℕ) → end ≤ i → partsTo end i ≡ all
+  parts-past : (end i : ℕ) → end ≤ i → partsTo end i ≡ all
   unfolding partsIn
   parts-past end i h = let e : end - i ≡ 0 = omega arith in rw e
 
@@ -206,14 +206,14 @@ no-part isKnown all inner rest (Node.End count) t = refl
 no-part isKnown all inner rest (Node.Join both size) t = absurd (none-of 4 (omega arith) t)
 no-part isKnown all inner rest (Node.Atom positive k) t = absurd (none-of 5 (omega arith) t)
 
-not-formula : (isKnown : ℕ → Bool) (parts : Bool → ℕ → Bool) (x : Node) → OneOf (0 ∷ 1 ∷ 2 ∷ 3 ∷ []) (tagOf the-type x) → formulaNode isKnown parts x ≡ false
+formula-none : (isKnown : ℕ → Bool) (parts : Bool → ℕ → Bool) (x : Node) → OneOf (0 ∷ 1 ∷ 2 ∷ 3 ∷ []) (tagOf the-type x) → formulaNode isKnown parts x ≡ false
 unfolding formulaNode
-not-formula isKnown parts (Node.Act a number) t = refl
-not-formula isKnown parts (Node.Branch met unmet) t = refl
-not-formula isKnown parts (Node.Jump skip) t = refl
-not-formula isKnown parts (Node.End count) t = refl
-not-formula isKnown parts (Node.Join all size) t = absurd (none-of 4 (omega arith) t)
-not-formula isKnown parts (Node.Atom positive k) t = absurd (none-of 5 (omega arith) t)
+formula-none isKnown parts (Node.Act a number) t = refl
+formula-none isKnown parts (Node.Branch met unmet) t = refl
+formula-none isKnown parts (Node.Jump skip) t = refl
+formula-none isKnown parts (Node.End count) t = refl
+formula-none isKnown parts (Node.Join all size) t = absurd (none-of 4 (omega arith) t)
+formula-none isKnown parts (Node.Atom positive k) t = absurd (none-of 5 (omega arith) t)
 
 -- The parts in a memory, where a level is left, and where none is.
 module _ (nodes : List ℕ) (isKnown : ℕ → Bool) where
@@ -285,8 +285,9 @@ module _ (nodes : List ℕ) (isKnown : ℕ → Bool) where
       let n : i + 1 + size - (i + 1) ≡ size = omega arith in
       (λ j. partsHold nodes isKnown (deepest - 1) (t j) (n j) (i + 1)) ∙ join-holds i all size e
 
+  -- A node that is none of a formula.
   pub no-formula : (i : ℕ) (x : Node) → x ≡ nodeAt nodes i → OneOf (0 ∷ 1 ∷ 2 ∷ 3 ∷ []) (tagOf the-type x) → false ≡ holdsAt nodes isKnown i
-  no-formula i x e t = sym (not-formula isKnown (λ all size. partsHold nodes isKnown (deepest - 1) all size (i + 1)) x t) ∙ holds-by i x e
+  no-formula i x e t = sym (formula-none isKnown (λ all size. partsHold nodes isKnown (deepest - 1) all size (i + 1)) x t) ∙ holds-by i x e
 
 -- An atom holds exactly if its flag says whether its formula is known.
 pub atom-known : (isKnown : ℕ → Bool) (positive : Bool) (k : ℕ) → Bool·beq (isKnown k) positive ≡ atomHolds isKnown positive k

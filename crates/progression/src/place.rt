@@ -53,8 +53,8 @@ fn lesser(a: usize, b: usize) -> usize
 // are lent. A part joined by "or" takes one of the `left` levels; one joined by "and" stands for its parts, so that a chain
 // or tree of one connective costs little more than its atoms. Behind a part that fails nothing is tested. Where no level is
 // left nothing holds, nor at a node that is no part. No part goes on behind `end`, so that in any memory a formula meets each
-// node at most once at each level. (That "and" and "or" have a function each, and that the set is lent, makes calls cheaper:
-// docs/PERFORMANCE.md.)
+// node at most once at each level. ("And" and "or" have a function each since the compiler then puts one into the other,
+// which halves the calls. `own` is a copy that it can keep at hand. The times are in docs/PERFORMANCE.md.)
 fn all_hold(
     nodes: &[u16; NODE_CELLS],
     sets: &[u64; SET_WORDS],
@@ -96,8 +96,9 @@ fn all_hold(
     true
 }
 
-// Whether one of the parts holds that stand from node `at` on before node `end`. A part joined by "and" takes a level, one
-// joined by "or" stands for its parts, and behind a part that holds nothing is tested.
+// Whether one of the parts holds that stand from node `at` on before node `end`, the set lent in the same way. A part joined
+// by "and" takes a level, one joined by "or" stands for its parts, and behind a part that holds nothing is tested. Where no
+// level is left nothing holds; a node that is no part is the end, and nothing behind it counts.
 fn one_holds(
     nodes: &[u16; NODE_CELLS],
     sets: &[u64; SET_WORDS],
@@ -160,7 +161,8 @@ fn formula_holds(
 }
 
 // The place that the program reaches from node `at` on, where the states of a set are possible. (A branch and the end ask
-// for their formula at one place, so that the compiler has it there and the caller not: docs/PERFORMANCE.md.)
+// for their formula at one place: the compiler then puts `formula_holds` into this function, and not this one into its
+// callers, where the set would be stored word by word and loaded in pairs, which is slow. docs/PERFORMANCE.md.)
 pub fn settle(nodes: &[u16; NODE_CELLS], sets: &[u64; SET_WORDS], set: States, at: usize) -> Place
     ensures { λ r. ⌜ (r ≡ settled (now (nodes .entry)) (now (sets .entry)) set at) × Inside r ⌝ }
 {

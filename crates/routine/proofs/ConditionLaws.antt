@@ -61,7 +61,7 @@ module _ (bytes : List ℕ) (n : ℕ) where
       let w = epistemic-split n bytes at left f q r in
       subst (λ x. Parts bytes n left x f q) (sheet-short epistemicNode bytes at short (w .3) ∙ sym e) (parts-behind left l (w .0) (w .2) f q (w .1) (w .4))
 
--- An objective formula is known, or isn't.
+-- The atom that says of an objective formula that it is known, or that it isn't.
 abbrev atomOf : (positive : Bool) → Objective → Epistemic
 atomOf true = known
 atomOf false = not-known

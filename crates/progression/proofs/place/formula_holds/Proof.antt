@@ -1,11 +1,9 @@
 -- `progression::place::formula_holds` meets its contract: by the law of the node that stands there. Assumes nothing.
-use Prim.Native.Nat.{ℕ, _+_, _-_, _<_}
-use mathlib.Core.Path.{_≡_, sym, subst, _∙_}
-use mathlib.Core.Bool.{Bool}
+use Prim.Native.Nat.{_<_}
+use mathlib.Core.Path.{sym, subst, _∙_}
 use native.Mathlib.Omega.{arith}
 use borrow.Author.Needs.{needs}
-use Rattle.routine.specs.declared.memory.Node.{Node}
-use Rattle.routine.specs.Memory.{Small, nodeMost, nodeAt}
+use Rattle.routine.specs.Memory.{Small, nodeMost}
 use Rattle.progression.proofs.MachineLaws.{atom-holds, parts-told, join-inside, no-formula}
 use Rattle.progression.proofs.place.formula_holds.Statement.{statement}
 use Rattle.progression.proofs.place.formula_holds.Tie as tie
