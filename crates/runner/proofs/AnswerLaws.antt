@@ -8,7 +8,7 @@ use Rattle.semantics.specs.Replies.{Told as Telling, to-do, at-end}
 use Rattle.runner.specs.declared.answer.Rejection.{Rejection}
 use Rattle.runner.specs.declared.answer.Told.{Told}
 use Rattle.runner.specs.declared.answer.Reported.{Reported}
-use Rattle.runner.specs.Answers.{toldOf, reportedOf}
+use Rattle.runner.specs.Answers.{rejectionNumber, toldOf, reportedOf}
 
 -- The answer of "Next" that has a meaning.
 unfoldable toldFor : Answer Telling → Told
@@ -27,8 +27,9 @@ told-one t u e = sym (telling-back t) ∙ ap toldFor e ∙ telling-back u
 
 -- And of "Report".
 unfoldable rejectionFor : ℕ → Rejection
-unfolding if_then_else_
-rejectionFor k = if eqb k 31 then Rejection.BadRecord else if eqb k 32 then Rejection.AtEnd else if eqb k 33 then Rejection.NoSuchReply else Rejection.NotPossible
+unfolding if_then_else_ rejectionNumber
+rejectionFor k = if eqb k (rejectionNumber Rejection.BadRecord) then Rejection.BadRecord else if eqb k (rejectionNumber Rejection.AtEnd) then Rejection.AtEnd
+    else if eqb k (rejectionNumber Rejection.NoSuchReply) then Rejection.NoSuchReply else Rejection.NotPossible
 
 unfoldable reportedFor : Answer (Unit {0}) → Reported
 unfolding rejectionFor
