@@ -16,7 +16,7 @@ ghost use lib.ListN.{length};
 ghost use Rattle.format.specs.Format.{reading};
 ghost use Rattle.semantics.specs.Checker.{isTraceLength, checked};
 ghost use Rattle.routine.specs.Memory.{Sized};
-ghost use Rattle.routine.specs.Tables.{prepared as preparedBy, sheetHeads, nodeCells, setWords};
+ghost use Rattle.routine.specs.Tables.{TablesAfter};
 ghost use Rattle.checker.specs.Answers.{answerOf};
 ghost use Rattle.checker.specs.Shown.{showsBy};
 
@@ -90,7 +90,7 @@ pub fn check_in(
     nodes: &mut [u16; NODE_CELLS],
     sets: &mut [u64; SET_WORDS],
 ) -> Checked
-    ensures { λ r. ⌜ (Sized (now (heads .entry)) (now (nodes .entry)) (now (sets .entry)) → answerOf r ≡ checked (now (bytes .entry)) (now (trace .entry))) × (now (heads .exit) ≡ preparedBy sheetHeads (reading (now (bytes .entry))) (now (heads .entry))) × (now (nodes .exit) ≡ preparedBy nodeCells (reading (now (bytes .entry))) (now (nodes .entry))) × (now (sets .exit) ≡ preparedBy setWords (reading (now (bytes .entry))) (now (sets .entry))) ⌝ }
+    ensures { λ r. ⌜ (Sized (now (heads .entry)) (now (nodes .entry)) (now (sets .entry)) → answerOf r ≡ checked (now (bytes .entry)) (now (trace .entry))) × TablesAfter (reading (now (bytes .entry))) (now (heads .entry)) (now (nodes .entry)) (now (sets .entry)) (now (heads .exit)) (now (nodes .exit)) (now (sets .exit)) ⌝ }
 {
     match prepare(bytes, heads, nodes, sets) {
         Prepared::Refused(r) => Checked::Refused(r),

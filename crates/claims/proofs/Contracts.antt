@@ -11,7 +11,7 @@ use Rattle.reader.specs.Answers.{answerOf as readOf, withoutValue}
 use Rattle.semantics.specs.Verdict.{verified}
 use Rattle.semantics.specs.Checker.{checked}
 use Rattle.routine.specs.declared.sheet.Prepared.{Prepared}
-use Rattle.routine.specs.Tables.{sheetHeads, nodeCells, setWords, preparedOf, startOf, prepared}
+use Rattle.routine.specs.Tables.{preparedOf, startOf, TablesAfter}
 use Rattle.progression.specs.declared.place.Place.{Place}
 use Rattle.progression.specs.Machine.{knownBy, settled, stepped}
 use Rattle.verifier.specs.declared.verdict.Verdict.{Verdict}
@@ -24,8 +24,7 @@ use Rattle.claims.specs.Demands.{Library}
 pub record Contracts {ℓ} (library : Library {ℓ}) : Type ℓ where
   pub read-contract : (bytes : List ℕ) (a : Acceptance) → library .reads bytes a → readOf a ≡ withoutValue (reading bytes)
   pub prepare-contract : (bytes heads nodes sets : List ℕ) (p : Prepared) (heads′ nodes′ sets′ : List ℕ) → library .prepares bytes heads nodes sets p heads′ nodes′ sets′
-      → (preparedOf p ≡ startOf (reading bytes)) × (heads′ ≡ prepared sheetHeads (reading bytes) heads) × (nodes′ ≡ prepared nodeCells (reading bytes) nodes)
-      × (sets′ ≡ prepared setWords (reading bytes) sets)
+      → (preparedOf p ≡ startOf (reading bytes)) × TablesAfter (reading bytes) heads nodes sets heads′ nodes′ sets′
   pub settle-contract : (nodes sets : List ℕ) (set : States) (at : ℕ) (p : Place) → library .settles nodes sets set at p → p ≡ settled nodes sets set at
   pub settle-bounds : (nodes sets : List ℕ) (set : States) (at node a : ℕ) → library .settles nodes sets set at (Place.Act node a) → (node < nodeMost) × (a < 65536)
   pub step-contract : (heads sets : List ℕ) (set : States) (a r : ℕ) (next : States) → library .steps heads sets set a r next → next ≡ stepped heads sets set a r

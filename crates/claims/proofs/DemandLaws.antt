@@ -34,9 +34,9 @@ use Rattle.semantics.proofs.AcceptedLaws.{starts}
 use Rattle.semantics.proofs.CheckerLaws.{checked-refused, checked-number, yes-failing, failing-yes}
 use Rattle.routine.specs.declared.sheet.Prepared.{Prepared}
 use Rattle.routine.specs.Memory.{setAt}
-use Rattle.routine.specs.Tables.{sheetStart, sheetHeads, nodeCells, setWords, preparedOf, startOf, prepared, atomSets, programSets, sheetActionSets, sheetSets}
+use Rattle.routine.specs.Tables.{sheetStart, preparedOf, startOf, atomSets, programSets, sheetActionSets, sheetSets, TablesAfter}
 use Rattle.routine.proofs.FitLaws.{start-fits}
-use Rattle.routine.proofs.TableLaws.{noStates, Tabled, prepared-tabled, ready-sheet, refused-sheet}
+use Rattle.routine.proofs.TableLaws.{noStates, Tabled, tables-tabled, ready-sheet, refused-sheet}
 use Rattle.progression.specs.declared.place.Place.{Place}
 use Rattle.progression.specs.Machine.{settled, stepped}
 use Rattle.progression.proofs.StepLaws.{tabled-step, members-possible, member-states}
@@ -154,9 +154,9 @@ module _ {ℓ} (library : Library {ℓ}) (contracts : Contracts library) where
       → HeadsFit heads → NodesFit nodes → SetsFit sets → HeadsFit heads′ × NodesFit nodes′ × SetsFit sets′ × ((start : States) → p ≡ Prepared.Ready start → WordsFit start)
   tables-fit bytes heads nodes sets p heads′ nodes′ sets′ call h n s =
       let c = contracts .prepare-contract bytes heads nodes sets p heads′ nodes′ sets′ call in (
-        subst HeadsFit (sym (c .1)) (heads-fit bytes heads h),
-        subst NodesFit (sym (c .2)) (nodes-fit bytes nodes n),
-        subst SetsFit (sym (c .3)) (sets-fit bytes sets s),
+        subst HeadsFit (sym (c .1 .0)) (heads-fit bytes heads h),
+        subst NodesFit (sym (c .1 .1)) (nodes-fit bytes nodes n),
+        subst SetsFit (sym (c .1 .2)) (sets-fit bytes sets s),
         λ start e. let q = ready-sheet (reading bytes) start (sym (ap preparedOf e) ∙ c .0) in subst WordsFit (sym (q .2)) (start-fits (q .0)),
       )
 
@@ -171,15 +171,11 @@ module _ {ℓ} (library : Library {ℓ}) (contracts : Contracts library) where
     abbrev few : sheet .facts ≤ 8
     few = accepted-shape bytes sheet (tables .read) .facts-most
 
-    made : (preparedOf (Prepared.Ready start) ≡ startOf (reading bytes)) × (heads ≡ prepared sheetHeads (reading bytes) (tables .heads₀))
-        × (nodes ≡ prepared nodeCells (reading bytes) (tables .nodes₀)) × (sets ≡ prepared setWords (reading bytes) (tables .sets₀))
+    made : (preparedOf (Prepared.Ready start) ≡ startOf (reading bytes)) × TablesAfter (reading bytes) (tables .heads₀) (tables .nodes₀) (tables .sets₀) heads nodes sets
     made = contracts .prepare-contract bytes (tables .heads₀) (tables .nodes₀) (tables .sets₀) (Prepared.Ready start) heads nodes sets (tables .made)
 
     tabled : Tabled sheet heads nodes sets
-    tabled =
-        let m = made in
-        rw (m .1, m .2, m .3)
-        (prepared-tabled bytes sheet (tables .read) (tables .heads₀) (tables .nodes₀) (tables .sets₀) (tables .sized))
+    tabled = tables-tabled bytes sheet (tables .read) (tables .heads₀) (tables .nodes₀) (tables .sets₀) (tables .sized) heads nodes sets (made .1)
 
     start-is : start ≡ sheetStart sheet
     start-is =

@@ -2,7 +2,7 @@
 -- `Reads` is what a caller learns from the contract; weaken a contract, and these theorems are refused.) Assumes nothing.
 use Prim.Native.Nat.{ℕ, _<_}
 use mathlib.Core.List.{List}
-use mathlib.Core.Path.{_≡_, sym, ap, _∙_}
+use mathlib.Core.Path.{_≡_, sym, ap, subst, _∙_}
 use mathlib.Core.Bool.{Bool}
 use contract.Lifetimes.{Lfts}
 use denote.Ref.{now}
@@ -16,7 +16,7 @@ use Rattle.reader.specs.declared.sheet.Acceptance.{Acceptance}
 use Rattle.semantics.specs.Verdict.{Verified, verified}
 use Rattle.semantics.specs.Checker.{checked}
 use Rattle.routine.specs.declared.sheet.Prepared.{Prepared}
-use Rattle.routine.specs.Tables.{startOf, prepared, sheetHeads, nodeCells, setWords}
+use Rattle.routine.specs.Tables.{startOf, TablesAfter}
 use Rattle.progression.specs.declared.place.Place.{Place}
 use Rattle.progression.specs.Machine.{knownBy, settled, Inside, stepped}
 use Rattle.verifier.specs.declared.verdict.Verdict.{Verdict}
@@ -103,9 +103,8 @@ contracts = record {
   prepare-contract = λ bytes heads nodes sets r heads′ nodes′ sets′ c.
       let l = c .10 in (
         l .0 ∙ ap (λ (b : List ℕ). startOf (reading b)) (c .3),
-        sym (c .7) ∙ l .1 ∙ (λ i. prepared sheetHeads (reading (c .3 i)) (c .4 i)),
-        sym (c .8) ∙ l .2 ∙ (λ i. prepared nodeCells (reading (c .3 i)) (c .5 i)),
-        sym (c .9) ∙ l .3 ∙ (λ i. prepared setWords (reading (c .3 i)) (c .6 i)),
+        subst (λ (x : List ℕ × List ℕ × List ℕ × List ℕ × List ℕ × List ℕ × List ℕ). TablesAfter (reading (x .0)) (x .1) (x .2) (x .3) (x .4) (x .5) (x .6))
+            (λ i. (c .3 i, c .4 i, c .5 i, c .6 i, c .7 i, c .8 i, c .9 i)) (l .1),
       );
   settle-contract = λ nodes sets set at r c. c .7 .0 ∙ (λ i. settled (c .3 i) (c .4 i) (c .5 i) (c .6 i));
   settle-bounds = λ nodes sets set at node a c. act-bounds node a (c .7 .1);

@@ -24,7 +24,7 @@ use Rattle.reader.specs.Answers.{answerOf as readOf, withoutValue}
 use Rattle.reader.specs.declared.sheet.Acceptance.{Acceptance}
 use Rattle.semantics.specs.Checker.{checked}
 use Rattle.routine.specs.declared.sheet.Prepared.{Prepared}
-use Rattle.routine.specs.Tables.{preparedOf, startOf, prepared, sheetHeads, nodeCells, setWords}
+use Rattle.routine.specs.Tables.{preparedOf, startOf, TablesAfter}
 use Rattle.progression.specs.declared.place.Place.{Place}
 use Rattle.progression.specs.Machine.{knownBy, settled, stepped}
 use Rattle.checker.specs.declared.Checked.{Checked}
@@ -116,15 +116,12 @@ module _ {M : Type 1} (𝓤 : URA M) (H : Heap 𝓤) (𝓜 : Model 𝓤 H) (𝓖
       (λ r. id⊢ 𝓤 _) machine-prepared-one
 
   pub prepare-ran : (bytes heads nodes sets : List ℕ) (r : Prepared) (heads′ nodes′ sets′ : List ℕ) → PrepareRan bytes heads nodes sets r heads′ nodes′ sets′
-      → (preparedOf r ≡ startOf (reading bytes)) × (heads′ ≡ prepared sheetHeads (reading bytes) heads) × (nodes′ ≡ prepared nodeCells (reading bytes) nodes)
-      × (sets′ ≡ prepared setWords (reading bytes) sets)
+      → (preparedOf r ≡ startOf (reading bytes)) × TablesAfter (reading bytes) heads nodes sets heads′ nodes′ sets′
   prepare-ran bytes heads nodes sets r heads′ nodes′ sets′ c =
       let kept = contracts .prepare-contract bytes heads nodes sets (c .6 .0) heads′ nodes′ sets′ (c .6 .1) in (
         ∥∥₁-elim (prepare-does (c .0) .1 r (c .5)) (states-answer-set _ _)
             (λ t. contracts .prepare-contract bytes heads nodes sets r _ _ _ (c .0 .0, c .0 .3, t .0, c .1, c .2, c .3, c .4, refl, refl, refl, t .1) .0),
         kept .1,
-        kept .2,
-        kept .3,
       )
 
   pub prepare-ends : (bytes heads nodes sets : List ℕ) → CanPrepare bytes heads nodes sets

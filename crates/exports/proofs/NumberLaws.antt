@@ -1,6 +1,6 @@
 -- Laws of answers as numbers. Assumes nothing.
 use Prim.Native.Nat.{ℕ}
-use mathlib.Core.Path.{_≡_, refl, sym, ap, _∙_}
+use mathlib.Core.Path.{_≡_, refl, sym, ap, subst, _∙_}
 use mathlib.Core.List.{List}
 use native.Mathlib.Omega.{arith}
 use Rattle.states.specs.declared.States.{States}
@@ -8,7 +8,7 @@ use Rattle.format.specs.Syntax.{Sheet}
 use Rattle.format.specs.Format.{Answer, gives, refused}
 use Rattle.reader.specs.Answers.{withoutValue, numberFor}
 use Rattle.states.specs.Sets.{words, ofWords}
-use Rattle.routine.specs.Tables.{startOf, prepared}
+use Rattle.routine.specs.Tables.{startOf, TablesAfter}
 use Rattle.progression.specs.declared.place.Place.{Place}
 use Rattle.progression.specs.Machine.{stepped, settled}
 use Rattle.semantics.specs.Verdict.{Verdict, Verified}
@@ -76,8 +76,9 @@ told-lent r lent a n old after l e k m =
     (k ∙ ap numberFor same, m ∙ ap (λ (b : Answer Told). memoryAfter toldNumbers b old) same)
 
 -- Tables that were prepared for it.
-pub tables-lent : (r lent : Record) → r ≡ lent → (has : Sheet → List ℕ) (memory after : List ℕ) → after ≡ prepared has (sheetIn r) memory → after ≡ prepared has (sheetIn lent) memory
-tables-lent r lent l has memory after e = e ∙ ap (λ (x : Record). prepared has (sheetIn x) memory) l
+pub tables-lent : (r lent : Record) → r ≡ lent → (heads nodes sets heads′ nodes′ sets′ : List ℕ) → TablesAfter (sheetIn r) heads nodes sets heads′ nodes′ sets′
+    → TablesAfter (sheetIn lent) heads nodes sets heads′ nodes′ sets′
+tables-lent r lent l heads nodes sets heads′ nodes′ sets′ t = subst (λ (x : Record). TablesAfter (sheetIn x) heads nodes sets heads′ nodes′ sets′) l t
 
 -- The parts of a record that lent memory keeps.
 pub record-parts : (r kept : Record) → r ≡ kept → (r .sheet ≡ kept .sheet) × (r .replies ≡ kept .replies) × (lengthsOf r ≡ lengthsOf kept)

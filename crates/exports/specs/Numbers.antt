@@ -4,7 +4,7 @@ use mathlib.Core.List.{List, [], _∷_}
 use mathlib.Core.Bool.{Bool, true, false}
 use lib.ListN.{getD}
 use Rattle.format.specs.Syntax.{Sheet}
-use Rattle.format.specs.Format.{Answer, gives, refused}
+use Rattle.format.specs.Format.{Answer, gives, refused, givenOr}
 use Rattle.semantics.specs.Verdict.{Verdict, valid, invalid, stopped}
 use Rattle.states.specs.Sets.{words}
 use Rattle.routine.specs.Tables.{sheetStart}
@@ -14,8 +14,8 @@ use Rattle.runner.specs.declared.calls.Record.{Record}
 
 -- A memory after a call: the numbers of what it gives; a refusal leaves it as it was.
 unfoldable pub memoryAfter : {A : Type 0} (numbers : A → List ℕ) → Answer A → (old : List ℕ) → List ℕ
-memoryAfter numbers (gives a) old = numbers a
-memoryAfter numbers (refused r) old = old
+unfolding givenOr
+memoryAfter numbers answer old = givenOr old numbers answer
 
 -- The words of a sheet's start set.
 unfoldable pub startWords : Sheet → List ℕ

@@ -32,7 +32,7 @@ ghost use Rattle.semantics.specs.Checker.{checked};
 ghost use Rattle.semantics.specs.Printing.{printed};
 ghost use Rattle.states.specs.Sets.{words, ofWords};
 ghost use Rattle.routine.specs.Memory.{write, Sized};
-ghost use Rattle.routine.specs.Tables.{prepared as preparedBy, sheetHeads, nodeCells, setWords};
+ghost use Rattle.routine.specs.Tables.{TablesAfter};
 ghost use Rattle.progression.specs.Machine.{stepped, settled};
 ghost use Rattle.verifier.specs.Answers.{answerOf as verdictOf, cleared};
 ghost use Rattle.checker.specs.Answers.{answerOf as checkedOf};
@@ -68,7 +68,7 @@ pub extern "C" fn recovery_prepare(
     sets: &mut [u64; SET_WORDS],
     start: &mut [u64; States::WORDS],
 ) -> u8
-    ensures { λ r. ⌜ (r ≡ numberFor (reading (now (bytes .entry)))) × (now (heads .exit) ≡ preparedBy sheetHeads (reading (now (bytes .entry))) (now (heads .entry))) × (now (nodes .exit) ≡ preparedBy nodeCells (reading (now (bytes .entry))) (now (nodes .entry))) × (now (sets .exit) ≡ preparedBy setWords (reading (now (bytes .entry))) (now (sets .entry))) × (now (start .exit) ≡ memoryAfter startWords (reading (now (bytes .entry))) (now (start .entry))) ⌝ }
+    ensures { λ r. ⌜ (r ≡ numberFor (reading (now (bytes .entry)))) × (now (start .exit) ≡ memoryAfter startWords (reading (now (bytes .entry))) (now (start .entry))) × TablesAfter (reading (now (bytes .entry))) (now (heads .entry)) (now (nodes .entry)) (now (sets .entry)) (now (heads .exit)) (now (nodes .exit)) (now (sets .exit)) ⌝ }
 {
     match prepare(bytes, heads, nodes, sets) {
         Prepared::Refused(r) => reader::number(r),
@@ -162,7 +162,7 @@ pub extern "C" fn recovery_verify_in(
     sets: &mut [u64; SET_WORDS],
     memo: &mut [u64; MEMO_WORDS],
 ) -> u8
-    ensures { λ r. ⌜ (Sized (now (heads .entry)) (now (nodes .entry)) (now (sets .entry)) → (r ≡ numberFor (verified (now (bytes .entry)) budget (now (trace .entry)) .answer)) × (now (trace .exit) ≡ verified (now (bytes .entry)) budget (now (trace .entry)) .memory) × (now (verdict .exit) ≡ memoryAfter verdictNumbers (verified (now (bytes .entry)) budget (now (trace .entry)) .answer) (now (verdict .entry)))) × (now (heads .exit) ≡ preparedBy sheetHeads (admitted (now (bytes .entry)) (now (trace .entry))) (now (heads .entry))) × (now (nodes .exit) ≡ preparedBy nodeCells (admitted (now (bytes .entry)) (now (trace .entry))) (now (nodes .entry))) × (now (sets .exit) ≡ preparedBy setWords (admitted (now (bytes .entry)) (now (trace .entry))) (now (sets .entry))) × (now (memo .exit) ≡ cleared (admitted (now (bytes .entry)) (now (trace .entry))) (now (memo .entry))) ⌝ }
+    ensures { λ r. ⌜ (Sized (now (heads .entry)) (now (nodes .entry)) (now (sets .entry)) → (r ≡ numberFor (verified (now (bytes .entry)) budget (now (trace .entry)) .answer)) × (now (trace .exit) ≡ verified (now (bytes .entry)) budget (now (trace .entry)) .memory) × (now (verdict .exit) ≡ memoryAfter verdictNumbers (verified (now (bytes .entry)) budget (now (trace .entry)) .answer) (now (verdict .entry)))) × (now (memo .exit) ≡ cleared (admitted (now (bytes .entry)) (now (trace .entry))) (now (memo .entry))) × TablesAfter (admitted (now (bytes .entry)) (now (trace .entry))) (now (heads .entry)) (now (nodes .entry)) (now (sets .entry)) (now (heads .exit)) (now (nodes .exit)) (now (sets .exit)) ⌝ }
 {
     let answer = verify_in(bytes, budget, trace, heads, nodes, sets, memo);
     put_verdict(verdict, answer);
@@ -197,7 +197,7 @@ pub extern "C" fn recovery_check_in(
     nodes: &mut [u16; NODE_CELLS],
     sets: &mut [u64; SET_WORDS],
 ) -> u8
-    ensures { λ r. ⌜ (Sized (now (heads .entry)) (now (nodes .entry)) (now (sets .entry)) → r ≡ checkedNumber (checked (now (bytes .entry)) (now (trace .entry)))) × (now (heads .exit) ≡ preparedBy sheetHeads (reading (now (bytes .entry))) (now (heads .entry))) × (now (nodes .exit) ≡ preparedBy nodeCells (reading (now (bytes .entry))) (now (nodes .entry))) × (now (sets .exit) ≡ preparedBy setWords (reading (now (bytes .entry))) (now (sets .entry))) ⌝ }
+    ensures { λ r. ⌜ (Sized (now (heads .entry)) (now (nodes .entry)) (now (sets .entry)) → r ≡ checkedNumber (checked (now (bytes .entry)) (now (trace .entry)))) × TablesAfter (reading (now (bytes .entry))) (now (heads .entry)) (now (nodes .entry)) (now (sets .entry)) (now (heads .exit)) (now (nodes .exit)) (now (sets .exit)) ⌝ }
 {
     checked_number(check_in(bytes, trace, heads, nodes, sets))
 }
@@ -266,7 +266,7 @@ pub extern "C" fn recovery_load_in(
     nodes: &mut [u16; NODE_CELLS],
     sets: &mut [u64; SET_WORDS],
 ) -> u8
-    ensures { λ r. ⌜ (r ≡ numberFor (reading (now (bytes .entry)))) × (now (sheet .exit) ≡ loaded (now (bytes .entry)) .sheet) × (now (replies .exit) ≡ loaded (now (bytes .entry)) .replies) × (now (lengths .exit) ≡ lengthsOf (loaded (now (bytes .entry)))) × (now (heads .exit) ≡ preparedBy sheetHeads (reading (now (bytes .entry))) (now (heads .entry))) × (now (nodes .exit) ≡ preparedBy nodeCells (reading (now (bytes .entry))) (now (nodes .entry))) × (now (sets .exit) ≡ preparedBy setWords (reading (now (bytes .entry))) (now (sets .entry))) ⌝ }
+    ensures { λ r. ⌜ (r ≡ numberFor (reading (now (bytes .entry)))) × (now (sheet .exit) ≡ loaded (now (bytes .entry)) .sheet) × (now (replies .exit) ≡ loaded (now (bytes .entry)) .replies) × (now (lengths .exit) ≡ lengthsOf (loaded (now (bytes .entry)))) × TablesAfter (reading (now (bytes .entry))) (now (heads .entry)) (now (nodes .entry)) (now (sets .entry)) (now (heads .exit)) (now (nodes .exit)) (now (sets .exit)) ⌝ }
 {
     let after = Record::load_in(bytes, heads, nodes, sets);
     let kept = after.kept;
@@ -326,7 +326,7 @@ pub extern "C" fn recovery_next_in(
     nodes: &mut [u16; NODE_CELLS],
     sets: &mut [u64; SET_WORDS],
 ) -> u8
-    ensures { λ r. ⌜ (Sized (now (heads .entry)) (now (nodes .entry)) (now (sets .entry)) → (r ≡ numberFor (nextOn (lentRecord (now (sheet .entry)) (now (replies .entry)) (now (lengths .entry))))) × (now (told .exit) ≡ memoryAfter toldNumbers (nextOn (lentRecord (now (sheet .entry)) (now (replies .entry)) (now (lengths .entry)))) (now (told .entry)))) × (now (heads .exit) ≡ preparedBy sheetHeads (sheetIn (lentRecord (now (sheet .entry)) (now (replies .entry)) (now (lengths .entry)))) (now (heads .entry))) × (now (nodes .exit) ≡ preparedBy nodeCells (sheetIn (lentRecord (now (sheet .entry)) (now (replies .entry)) (now (lengths .entry)))) (now (nodes .entry))) × (now (sets .exit) ≡ preparedBy setWords (sheetIn (lentRecord (now (sheet .entry)) (now (replies .entry)) (now (lengths .entry)))) (now (sets .entry))) ⌝ }
+    ensures { λ r. ⌜ (Sized (now (heads .entry)) (now (nodes .entry)) (now (sets .entry)) → (r ≡ numberFor (nextOn (lentRecord (now (sheet .entry)) (now (replies .entry)) (now (lengths .entry))))) × (now (told .exit) ≡ memoryAfter toldNumbers (nextOn (lentRecord (now (sheet .entry)) (now (replies .entry)) (now (lengths .entry)))) (now (told .entry)))) × TablesAfter (sheetIn (lentRecord (now (sheet .entry)) (now (replies .entry)) (now (lengths .entry)))) (now (heads .entry)) (now (nodes .entry)) (now (sets .entry)) (now (heads .exit)) (now (nodes .exit)) (now (sets .exit)) ⌝ }
 {
     let record = lent_record(sheet, replies, lengths);
     let after = record.next_in(heads, nodes, sets);
@@ -373,7 +373,7 @@ pub extern "C" fn recovery_report_in(
     nodes: &mut [u16; NODE_CELLS],
     sets: &mut [u64; SET_WORDS],
 ) -> u8
-    ensures { λ r. ⌜ (Sized (now (heads .entry)) (now (nodes .entry)) (now (sets .entry)) → (r ≡ numberFor (reportOn (lentRecord (now (sheet .entry)) (now (replies .entry)) (now (lengths .entry))) reply)) × (now (replies .exit) ≡ recordAfter (lentRecord (now (sheet .entry)) (now (replies .entry)) (now (lengths .entry))) reply .replies) × (now (lengths .exit) ≡ lengthsOf (recordAfter (lentRecord (now (sheet .entry)) (now (replies .entry)) (now (lengths .entry))) reply))) × (now (heads .exit) ≡ preparedBy sheetHeads (sheetIn (lentRecord (now (sheet .entry)) (now (replies .entry)) (now (lengths .entry)))) (now (heads .entry))) × (now (nodes .exit) ≡ preparedBy nodeCells (sheetIn (lentRecord (now (sheet .entry)) (now (replies .entry)) (now (lengths .entry)))) (now (nodes .entry))) × (now (sets .exit) ≡ preparedBy setWords (sheetIn (lentRecord (now (sheet .entry)) (now (replies .entry)) (now (lengths .entry)))) (now (sets .entry))) ⌝ }
+    ensures { λ r. ⌜ (Sized (now (heads .entry)) (now (nodes .entry)) (now (sets .entry)) → (r ≡ numberFor (reportOn (lentRecord (now (sheet .entry)) (now (replies .entry)) (now (lengths .entry))) reply)) × (now (replies .exit) ≡ recordAfter (lentRecord (now (sheet .entry)) (now (replies .entry)) (now (lengths .entry))) reply .replies) × (now (lengths .exit) ≡ lengthsOf (recordAfter (lentRecord (now (sheet .entry)) (now (replies .entry)) (now (lengths .entry))) reply))) × TablesAfter (sheetIn (lentRecord (now (sheet .entry)) (now (replies .entry)) (now (lengths .entry)))) (now (heads .entry)) (now (nodes .entry)) (now (sets .entry)) (now (heads .exit)) (now (nodes .exit)) (now (sets .exit)) ⌝ }
 {
     let record = lent_record(sheet, replies, lengths);
     let after = record.report_in(reply, heads, nodes, sets);

@@ -19,6 +19,11 @@ unfoldable pub onAccepted : {A B : Type 0} → (A → Answer B) → Answer A →
 onAccepted f (gives a) = f a
 onAccepted f (refused r) = refused r
 
+-- What is made of what is accepted; after a refusal something else.
+unfoldable pub givenOr : {A B : Type 0} → (otherwise : B) → (A → B) → Answer A → B
+givenOr otherwise made (gives a) = made a
+givenOr otherwise made (refused r) = otherwise
+
 -- What reading from a position finds: a value and the position after it, or the number of a refusal.
 pub data Read (A : Type 0) : Type 0 where
   got : A → ℕ → Read A

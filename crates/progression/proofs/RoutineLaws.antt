@@ -19,11 +19,11 @@ use Rattle.format.proofs.FormatLaws.{NumbersBelow}
 use Rattle.format.proofs.ReaderLaws.{read-levels}
 use Rattle.format.proofs.StandingLaws.{Shallow, standing-shallow, accepted-standing}
 use Rattle.format.proofs.SheetLaws.{accepted-shape}
-use Rattle.semantics.specs.Runs.{Entry, entry, History, extended, replies, IsRun, lastState, knownAfter, holdsAfter, occurs}
+use Rattle.semantics.specs.Runs.{Entry, entry, History, extended, replies, lastState, Possible, knownAfter, holdsAfter, possibleStates, occurs}
 use Rattle.semantics.specs.Routine.{Policy, done, perform, policy, routine, Follows}
 use Rattle.semantics.specs.Replies.{leftAfter, toldBy, told}
-use Rattle.semantics.specs.Progression.{satisfies, startSet, nextSet, setAfter}
-use Rattle.semantics.proofs.ProgressionLaws.{possible-run, run-possible, holds-possible, occurs-possible, set-states}
+use Rattle.semantics.specs.Progression.{satisfies, startSet, nextSet, setAfter, possible}
+use Rattle.semantics.proofs.ProgressionLaws.{possible-run, run-possible, holds-possible, occurs-possible, set-states, method-states}
 use Rattle.semantics.proofs.AcceptedLaws.{actions-most}
 use Rattle.semantics.proofs.ReplyLaws.{follows-none, left-next, left-more, next-follows, told-left}
 use Rattle.routine.specs.declared.memory.Node.{Node}
@@ -245,17 +245,25 @@ module _ (sheet : Sheet) (heads nodes sets : List ℕ) where
           ⊎-elim (λ (x : AtAction h i set). ap placeOf (x .settles) ∙ sym (told-left sheet h (reached .follows) (perform (x .action) (x .after)) (x .next)))
           (λ (x : AtEnd h i set). ap placeOf (x .settles) ∙ sym (told-left sheet h (reached .follows) done (x .nothing))) reached-place
 
+      -- The set's states are those still possible after the history, each once and in order: the sets of the code are those of the definition by runs.
+      method-members : members set ≡ possible sheet h
+      method-members = ap members (reached .set-is) ∙ members-possible sheet few h
+
+      pub reached-states : members set ≡ possibleStates sheet h
+      reached-states = method-members ∙ method-states sheet h
+
       -- Some run has the history exactly if some state is possible.
       pub reached-occurs : occurs sheet h ≡ nonempty (members set)
-      reached-occurs = occurs-possible sheet h ∙ ap nonempty (sym (ap members (reached .set-is) ∙ members-possible sheet few h))
+      reached-occurs = occurs-possible sheet h ∙ ap nonempty (sym method-members)
 
-      -- A state is in the set exactly if a run with the history ends in it: the sets of the code are those of the definition by runs.
-      pub state-run : (s : ℕ) → s < 256 → member set s ≡ true → (run : List ℕ) × IsRun sheet h run × (lastState run ≡ s)
-      state-run s l e = possible-run sheet h (subst (List·Memᴰ s) (ap members (reached .set-is) ∙ members-possible sheet few h) (mem-members set s l e))
+      -- A state is in the set exactly if it is still possible.
+      pub state-run : (s : ℕ) → s < 256 → member set s ≡ true → Possible sheet h s
+      unfolding Possible
+      state-run s l e = possible-run sheet h (subst (List·Memᴰ s) method-members (mem-members set s l e))
 
-      pub run-state : (run : List ℕ) → IsRun sheet h run → member set (lastState run) ≡ true
-      run-state run r =
-          members-mem set (subst (List·Memᴰ (lastState run)) (sym (ap members (reached .set-is) ∙ members-possible sheet few h)) (run-possible sheet h run r)) .1
+      pub run-state : (s : ℕ) → Possible sheet h s → member set s ≡ true
+      unfolding Possible
+      run-state s (run, r, e) = subst (λ (t : ℕ). member set t ≡ true) e (members-mem set (subst (List·Memᴰ (lastState run)) (sym method-members) (run-possible sheet h run r)) .1)
 
       -- A history by which something is reached has at most 64 actions.
       pub reached-few : length h ≤ 64

@@ -21,7 +21,7 @@ use Rattle.routine.specs.declared.memory.Node.{Node}
 use Rattle.routine.specs.declared.memory.Head.{Head}
 use Rattle.routine.specs.declared.sheet.Prepared.{Prepared}
 use Rattle.routine.specs.Memory.{write, cells, headMost, nodeMost, setMost, Sized, setAt, nodeOf, nodeAt, headAt}
-use Rattle.routine.specs.Tables.{rows, replyTables, actionSets, atomSets, programSets, headCells, sheetActionSets, sheetSets, sheetNodes, sheetHeads, setWords, nodeCells, sheetStart, preparedOf, startOf, prepared}
+use Rattle.routine.specs.Tables.{rows, replyTables, actionSets, atomSets, programSets, headCells, sheetActionSets, sheetSets, sheetNodes, sheetHeads, setWords, nodeCells, sheetStart, preparedOf, startOf, prepared, TablesAfter}
 use Rattle.routine.proofs.WriteLaws.{write-back, spread-length, words-four, cells-three}
 use Rattle.routine.proofs.RoomLaws.{action-length, heads-length, sheet-sets-length, sheet-nodes-length, accepted-room}
 
@@ -160,7 +160,7 @@ pub record Tabled (sheet : Sheet) (heads nodes sets : List ℕ) : Type 0 where
   pub set-is : (k : ℕ) → k < length (sheetSets sheet) → setAt sets k ≡ getD (sheetSets sheet) k noStates
 
 -- A memory of the right size holds the tables of an accepted sheet after it was prepared.
-pub prepared-tabled : (bytes : List ℕ) (sheet : Sheet) → reading bytes ≡ gives sheet → (heads nodes sets : List ℕ) → Sized heads nodes sets
+prepared-tabled : (bytes : List ℕ) (sheet : Sheet) → reading bytes ≡ gives sheet → (heads nodes sets : List ℕ) → Sized heads nodes sets
     → Tabled sheet (prepared sheetHeads (reading bytes) heads) (prepared nodeCells (reading bytes) nodes) (prepared setWords (reading bytes) sets)
 unfolding prepared sheetHeads nodeCells setWords headAt actionOf if_then_else_
 prepared-tabled bytes sheet e heads nodes sets (h, n, s) =
@@ -181,6 +181,10 @@ prepared-tabled bytes sheet e heads nodes sets (h, n, s) =
       node-is = λ i l. node-back nodes (sheetNodes sheet) n (omega (arith, sheet-nodes-length sheet, room .nodes-room)) i l;
       set-is = λ k l. set-back sets (sheetSets sheet) s (omega (arith, sheet-sets-length sheet, room .sets-room)) k l;
     })
+
+pub tables-tabled : (bytes : List ℕ) (sheet : Sheet) → reading bytes ≡ gives sheet → (heads nodes sets : List ℕ) → Sized heads nodes sets → (heads′ nodes′ sets′ : List ℕ)
+    → TablesAfter (reading bytes) heads nodes sets heads′ nodes′ sets′ → Tabled sheet heads′ nodes′ sets′
+tables-tabled bytes sheet e heads nodes sets z heads′ nodes′ sets′ t = rw (t .0, t .1, t .2) (prepared-tabled bytes sheet e heads nodes sets z)
 
 -- The sheet behind an answer of `prepare`: a start set is that of the accepted sheet, a refusal that of the sheet.
 pub ready-sheet : (a : Answer Sheet) (start : States) → preparedOf (Prepared.Ready start) ≡ startOf a → (sheet : Sheet) × (a ≡ gives sheet) × (start ≡ sheetStart sheet)

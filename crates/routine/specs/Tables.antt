@@ -10,7 +10,7 @@ use Rattle.states.specs.declared.States.{States}
 use Rattle.states.specs.Sets.{words, setOf}
 use Rattle.format.specs.Syntax.{top, fact, negation, Epistemic, known, not-known, all-of, any-of, Program, end, act, branch, Action, change, probe, actionNodes, replyCount, Sheet}
 use Rattle.format.specs.Truth.{isState, holds, truth, replyHolds}
-use Rattle.format.specs.Format.{Answer, gives, refused, onAccepted}
+use Rattle.format.specs.Format.{Answer, gives, refused, onAccepted, givenOr}
 use Rattle.reader.specs.Answers.{numberOf}
 use Rattle.routine.specs.declared.memory.Node.{Node}
 use Rattle.routine.specs.declared.sheet.Prepared.{Prepared}
@@ -151,9 +151,8 @@ startOf answer = onAccepted (λ (sheet : Sheet). gives (sheetStart sheet)) answe
 
 -- A memory after a sheet was prepared: what the sheet has is written from its first place on; a refused sheet leaves it as it was.
 unfoldable pub prepared : (Sheet → List ℕ) → Answer Sheet → (memory : List ℕ) → List ℕ
-unfolding write
-prepared has (gives sheet) memory = write memory 0 (has sheet)
-prepared has (refused r) memory = memory
+unfolding givenOr write
+prepared has answer memory = givenOr memory (λ (sheet : Sheet). write memory 0 (has sheet)) answer
 
 -- What a sheet has in each memory.
 unfoldable pub setWords : Sheet → List ℕ
@@ -163,6 +162,11 @@ setWords sheet = flatMap words (sheetSets sheet)
 unfoldable pub nodeCells : Sheet → List ℕ
 unfolding flatMap cells sheetNodes
 nodeCells sheet = flatMap cells (sheetNodes sheet)
+
+-- The three memories after a call that prepares a sheet: its tables, written into what they held; a refusal leaves them as they were.
+abbrev pub TablesAfter : Answer Sheet → (heads nodes sets heads′ nodes′ sets′ : List ℕ) → Type 0
+TablesAfter answer heads nodes sets heads′ nodes′ sets′ =
+    (heads′ ≡ prepared sheetHeads answer heads) × (nodes′ ≡ prepared nodeCells answer nodes) × (sets′ ≡ prepared setWords answer sets)
 
 -- Examples, evaluated.
 -- A set of states below 64, by its word.

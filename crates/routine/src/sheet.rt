@@ -23,7 +23,7 @@ ghost use mathlib.Core.Path.{_≡_};
 ghost use Prim.Native.Nat.{_≤_};
 ghost use lib.ListN.{length};
 ghost use Rattle.format.specs.Format.{mostBytes, reading};
-ghost use Rattle.routine.specs.Tables.{preparedOf, startOf, prepared as preparedBy, sheetHeads, nodeCells, setWords};
+ghost use Rattle.routine.specs.Tables.{preparedOf, startOf, TablesAfter};
 ghost use Rattle.routine.specs.Filling.{RoutineRoom, RoutineFills, Acceptable};
 
 // The start set of an accepted sheet, or the refusal.
@@ -64,7 +64,7 @@ fn fill(
     sets: &mut [u64; SET_WORDS],
 ) -> Prepared
     requires { ⌜ Acceptable (now bytes) ⌝ }
-    ensures { λ r. ⌜ (preparedOf r ≡ startOf (reading (now (bytes .entry)))) × (now (heads .exit) ≡ preparedBy sheetHeads (reading (now (bytes .entry))) (now (heads .entry))) × (now (nodes .exit) ≡ preparedBy nodeCells (reading (now (bytes .entry))) (now (nodes .entry))) × (now (sets .exit) ≡ preparedBy setWords (reading (now (bytes .entry))) (now (sets .entry))) ⌝ }
+    ensures { λ r. ⌜ (preparedOf r ≡ startOf (reading (now (bytes .entry)))) × TablesAfter (reading (now (bytes .entry))) (now (heads .entry)) (now (nodes .entry)) (now (sets .entry)) (now (heads .exit)) (now (nodes .exit)) (now (sets .exit)) ⌝ }
 {
     let ParsedHeader::Read(h) = header(bytes) else {
         return Prepared::Refused(Refusal::Cut);
@@ -88,7 +88,7 @@ pub fn prepare(
     nodes: &mut [u16; NODE_CELLS],
     sets: &mut [u64; SET_WORDS],
 ) -> Prepared
-    ensures { λ r. ⌜ (preparedOf r ≡ startOf (reading (now (bytes .entry)))) × (now (heads .exit) ≡ preparedBy sheetHeads (reading (now (bytes .entry))) (now (heads .entry))) × (now (nodes .exit) ≡ preparedBy nodeCells (reading (now (bytes .entry))) (now (nodes .entry))) × (now (sets .exit) ≡ preparedBy setWords (reading (now (bytes .entry))) (now (sets .entry))) ⌝ }
+    ensures { λ r. ⌜ (preparedOf r ≡ startOf (reading (now (bytes .entry)))) × TablesAfter (reading (now (bytes .entry))) (now (heads .entry)) (now (nodes .entry)) (now (sets .entry)) (now (heads .exit)) (now (nodes .exit)) (now (sets .exit)) ⌝ }
 {
     match read(bytes) {
         Acceptance::Refused(r) => Prepared::Refused(r),

@@ -11,7 +11,7 @@ use borrow.Author.Tests.{eqb-true}
 use Rattle.lists.specs.Lists.{if_then_else_, every}
 use Rattle.lists.proofs.ListLaws.{both-true}
 use Rattle.format.specs.Syntax.{replyCount, Sheet, actionOf}
-use Rattle.format.specs.Format.{Answer, gives, refused, onAccepted, reading, mostBytes, mostActs}
+use Rattle.format.specs.Format.{Answer, gives, refused, onAccepted, reading, mostBytes, mostActs, givenOr}
 use Rattle.reader.specs.Answers.{withoutValue}
 use Rattle.reader.proofs.AnswerLaws.{was-accepted}
 use Rattle.semantics.specs.Runs.{History, entry}
@@ -20,12 +20,13 @@ use Rattle.semantics.specs.Replies.{leftAfter, historyOf, stillPossible, report
 use Rattle.semantics.proofs.ReplyLaws.{accepted-run}
 use Rattle.semantics.proofs.AcceptedLaws.{replies-most}
 use Rattle.runner.specs.declared.calls.Record.{Record}
-use Rattle.runner.specs.Records.{padded, areZero, recordOf, recordFor, heldSheet, heldReplies, badRecord, isPadded, sheetIn, areReplies, passing, heldBy, reportOn, recordAfter}
+use Rattle.runner.specs.Answers.{badRecord}
+use Rattle.runner.specs.Records.{padded, areZero, recordOf, heldSheet, heldReplies, isPadded, sheetIn, areReplies, passing, heldBy, reportOn, recordAfter}
 use Rattle.runner.proofs.RecordLaws.{padded-within, padded-rest}
 
 -- An answer that without its value is a refusal changes no record.
-pub refused-unchanged : {A : Type 0} (made : A → Record) (r : Record) (k : ℕ) (a : Answer A) → refused k ≡ withoutValue a → r ≡ recordFor r made a
-unfolding withoutValue recordFor
+pub refused-unchanged : {A : Type 0} (made : A → Record) (r : Record) (k : ℕ) (a : Answer A) → refused k ≡ withoutValue a → r ≡ givenOr r made a
+unfolding withoutValue givenOr
 refused-unchanged made r k (gives x) e = let z : _≡_ {A = ℕ} 0 1 = cc in absurd (omega arith)
 refused-unchanged made r k (refused m) e = refl
 
@@ -169,9 +170,9 @@ module _ (r : Record) where
       has-room = omega (arith, at-most, longer)
 
       pub after-accepted : record { sheet = r .sheet; len = r .len; replies = set (r .replies) (r .count) x; count = r .count + 1 } ≡ recordAfter r x
-      unfolding recordAfter recordFor recordOf heldReplies heldSheet
+      unfolding recordAfter givenOr recordOf heldReplies heldSheet
       after-accepted =
           let w = written-padded mostActs (r .replies) (r .count) x replies-sized has-room (padded-rest mostActs (r .replies) (r .count) (parts .2)) in
           let s = sym (padded-back mostBytes (r .sheet) (r .len) sheet-sized (parts .0)) in
           let n = sym (before-length mostBytes (r .sheet) (r .len) sheet-sized (parts .0)) in
-          (λ i. record { sheet = s i; len = n i; replies = w i; count = sym longer i }) ∙ sym (ap (recordFor r (recordOf (heldSheet r))) added)
+          (λ i. record { sheet = s i; len = n i; replies = w i; count = sym longer i }) ∙ sym (ap (givenOr r (recordOf (heldSheet r))) added)

@@ -16,8 +16,8 @@ use Rattle.runner.specs.declared.answer.Rejection.{Rejection}
 use Rattle.runner.specs.declared.answer.Told.{Told}
 use Rattle.runner.specs.declared.answer.Reported.{Reported}
 use Rattle.runner.specs.declared.calls.Record.{Record}
-use Rattle.runner.specs.Records.{heldReplies, badRecord, sheetIn, areReplies, passing, heldBy, nextOn, reportOn}
-use Rattle.runner.specs.Answers.{rejectionNumber, toldOf, reportedOf}
+use Rattle.runner.specs.Records.{heldReplies, sheetIn, areReplies, passing, heldBy, nextOn, reportOn}
+use Rattle.runner.specs.Answers.{badRecord, rejectionNumber, toldOf, reportedOf}
 
 -- A record is refused with 31 alone.
 passing-refused : {A : Type 0} (test : A → Bool) (a : Answer A) (k : ℕ) → passing test a ≡ refused k → refused k ≡ badRecord {A = A}

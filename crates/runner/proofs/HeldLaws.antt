@@ -9,13 +9,13 @@ use lib.Seq.{take-append-seam, drop-append-seam}
 use Rattle.lists.specs.Lists.{if_then_else_, every}
 use Rattle.lists.proofs.ListLaws.{and-both}
 use Rattle.format.specs.Syntax.{Sheet}
-use Rattle.format.specs.Format.{gives, refused, onAccepted, reading, mostBytes, mostActs}
+use Rattle.format.specs.Format.{gives, refused, onAccepted, reading, mostBytes, mostActs, givenOr}
 use Rattle.format.proofs.SheetLaws.{accepted-length}
 use Rattle.semantics.specs.Replies.{told, reported, RepliesOfRun, areOfRun}
 use Rattle.semantics.proofs.ReplyLaws.{of-run, run-of}
 use Rattle.semantics.proofs.AcceptedLaws.{replies-most}
 use Rattle.runner.specs.declared.calls.Record.{Record}
-use Rattle.runner.specs.Records.{padded, areZero, recordOf, recordFor, heldSheet, heldReplies, isPadded, sheetIn, areReplies, heldBy, nextOn, reportOn, recordAfter}
+use Rattle.runner.specs.Records.{padded, areZero, recordOf, heldSheet, heldReplies, isPadded, sheetIn, areReplies, heldBy, nextOn, reportOn, recordAfter}
 use Rattle.runner.proofs.RecordLaws.{rest-decides}
 use Rattle.runner.proofs.CallLaws.{sheet-padded, held-is, held-parts, before-length, padded-back}
 
@@ -72,13 +72,13 @@ module _ (bytes : List ℕ) (sheet : Sheet) (read : reading bytes ≡ gives shee
 
   -- After a report that adds replies it is the record that belongs to these; after a refused one it is the same.
   pub after-added : (reply : ℕ) (qs : List ℕ) → reported sheet rs reply ≡ gives qs → recordAfter (recordOf bytes rs) reply ≡ recordOf bytes qs
-  unfolding recordAfter recordFor
+  unfolding recordAfter givenOr
   after-added reply qs e =
-      ap (recordFor (recordOf bytes rs) (recordOf (heldSheet (recordOf bytes rs)))) (report-held reply ∙ e) ∙ ap (λ (b : List ℕ). recordOf b qs) (held-sheet bytes rs)
+      ap (givenOr (recordOf bytes rs) (recordOf (heldSheet (recordOf bytes rs)))) (report-held reply ∙ e) ∙ ap (λ (b : List ℕ). recordOf b qs) (held-sheet bytes rs)
 
   pub after-refused : (reply k : ℕ) → reported sheet rs reply ≡ refused k → recordAfter (recordOf bytes rs) reply ≡ recordOf bytes rs
-  unfolding recordAfter recordFor
-  after-refused reply k e = ap (recordFor (recordOf bytes rs) (recordOf (heldSheet (recordOf bytes rs)))) (report-held reply ∙ e)
+  unfolding recordAfter givenOr
+  after-refused reply k e = ap (givenOr (recordOf bytes rs) (recordOf (heldSheet (recordOf bytes rs)))) (report-held reply ∙ e)
 
 -- 31 by `recordOf`: a record isn't refused, and holds a sheet, exactly if it is the record of bytes that are this sheet and of replies of a run. (The lengths of its arrays are
 -- those of their types.)

@@ -11,7 +11,7 @@ use Rattle.format.specs.Syntax.{Sheet}
 use Rattle.format.specs.Format.{Answer, gives, reading}
 use Rattle.reader.specs.Answers.{withoutValue}
 use Rattle.routine.specs.Memory.{Sized}
-use Rattle.routine.specs.Tables.{prepared, sheetHeads, nodeCells, setWords}
+use Rattle.routine.specs.Tables.{TablesAfter}
 use Rattle.runner.specs.declared.calls.Record.{Record}
 use Rattle.runner.specs.declared.calls.AfterLoad.{AfterLoad}
 use Rattle.runner.specs.declared.calls.AfterNext.{AfterNext}
@@ -72,25 +72,20 @@ pub lists-promised : (bytes : List ℕ) (sheet : Sheet) → reading bytes ≡ gi
 lists-promised = after-lists promised-runner runner-contracts
 
 -- The same with lent tables: behind the call they hold what `prepare` writes for the sheet.
-pub record Lent (sheet : Answer Sheet) (heads nodes sets heads′ nodes′ sets′ : List ℕ) : Type 0 where
-  pub heads-hold : heads′ ≡ prepared sheetHeads sheet heads
-  pub nodes-hold : nodes′ ≡ prepared nodeCells sheet nodes
-  pub sets-hold : sets′ ≡ prepared setWords sheet sets
-
 module _ (κs : Lfts 4) (a : Args load-in.signature κs) (ws : Lasts load-in.ended κs a) (l : AfterLoad) (learnt : load-in-reads.Learnt κs a l (atExit load-in.ended κs a ws)) where
-  pub load-lent : Lent (reading (now (a .0))) (now (a .1 .0)) (now (a .1 .1 .0)) (now (a .1 .1 .1 .0))
+  pub load-lent : TablesAfter (reading (now (a .0))) (now (a .1 .0)) (now (a .1 .1 .0)) (now (a .1 .1 .1 .0))
       (now (atExit load-in.ended κs a ws .1 .0)) (now (atExit load-in.ended κs a ws .1 .1 .0)) (now (atExit load-in.ended κs a ws .1 .1 .1 .0))
-  load-lent = record { heads-hold = learnt .2; nodes-hold = learnt .3; sets-hold = learnt .4 }
+  load-lent = learnt .2
 
 module _ (κs : Lfts 3) (a : Args next-in.signature κs) (ws : Lasts next-in.ended κs a) (t : AfterNext) (learnt : next-in-reads.Learnt κs a t (atExit next-in.ended κs a ws)) where
-  pub next-lent : Lent (sheetIn (a .0)) (now (a .1 .0)) (now (a .1 .1 .0)) (now (a .1 .1 .1 .0))
+  pub next-lent : TablesAfter (sheetIn (a .0)) (now (a .1 .0)) (now (a .1 .1 .0)) (now (a .1 .1 .1 .0))
       (now (atExit next-in.ended κs a ws .1 .0)) (now (atExit next-in.ended κs a ws .1 .1 .0)) (now (atExit next-in.ended κs a ws .1 .1 .1 .0))
-  next-lent = record { heads-hold = learnt .2; nodes-hold = learnt .3; sets-hold = learnt .4 }
+  next-lent = learnt .2
 
 module _ (κs : Lfts 3) (a : Args report-in.signature κs) (ws : Lasts report-in.ended κs a) (t : AfterReport) (learnt : report-in-reads.Learnt κs a t (atExit report-in.ended κs a ws)) where
-  pub report-lent : Lent (sheetIn (a .0)) (now (a .1 .1 .0)) (now (a .1 .1 .1 .0)) (now (a .1 .1 .1 .1 .0))
+  pub report-lent : TablesAfter (sheetIn (a .0)) (now (a .1 .1 .0)) (now (a .1 .1 .1 .0)) (now (a .1 .1 .1 .1 .0))
       (now (atExit report-in.ended κs a ws .1 .1 .0)) (now (atExit report-in.ended κs a ws .1 .1 .1 .0)) (now (atExit report-in.ended κs a ws .1 .1 .1 .1 .0))
-  report-lent = record { heads-hold = learnt .1; nodes-hold = learnt .2; sets-hold = learnt .3 }
+  report-lent = learnt .1
 
 -- What lent forms may give back is what the others may, so that the claim about lists of calls is theirs too.
 abbrev LoadInMay : (bytes : List ℕ) → AfterLoad → Type 0

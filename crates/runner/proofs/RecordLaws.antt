@@ -11,13 +11,13 @@ use borrow.Author.Tests.{eq-eqb, ne-eqb, le-leb, lt-leb, leb-true}
 use lib.Dec.{leb}
 use Rattle.lists.proofs.ListLaws.{both-true}
 use Rattle.format.specs.Syntax.{Sheet}
-use Rattle.format.specs.Format.{Answer, gives, refused, reading, mostBytes, mostActs}
+use Rattle.format.specs.Format.{Answer, gives, refused, reading, mostBytes, mostActs, givenOr}
 use Rattle.reader.specs.declared.refusal.Refusal.{Refusal}
 use Rattle.reader.specs.declared.sheet.Acceptance.{Acceptance}
 use Rattle.reader.specs.Answers.{numberOf, answerOf, withoutValue}
 use Rattle.reader.proofs.AnswerLaws.{was-accepted, was-refused}
 use Rattle.format.proofs.SheetLaws.{accepted-length}
-use Rattle.runner.specs.Records.{padded, areZero, recordOf, zeros, recordFor, loaded, isPadded}
+use Rattle.runner.specs.Records.{padded, areZero, recordOf, zeros, loaded, isPadded}
 
 module _ (bytes : List ℕ) (i : ℕ) where
   -- Behind the end there are only zeros.
@@ -79,9 +79,9 @@ module _ (most : ℕ) (bytes : List ℕ) (n : ℕ) where
 
 module _ (bytes : List ℕ) where
   -- The record that is loaded is that of the bytes' reading.
-  loaded-for : (x : Answer Sheet) → reading bytes ≡ x → loaded bytes ≡ recordFor zeros (λ sheet. recordOf bytes []) x
+  loaded-for : (x : Answer Sheet) → reading bytes ≡ x → loaded bytes ≡ givenOr zeros (λ sheet. recordOf bytes []) x
   unfolding loaded
-  loaded-for x e = ap (recordFor zeros (λ (sheet : Sheet). recordOf bytes [])) e
+  loaded-for x e = ap (givenOr zeros (λ (sheet : Sheet). recordOf bytes [])) e
 
   -- Accepted bytes fit into the record.
   pub accepted-fits : answerOf Acceptance.Accepted ≡ withoutValue (reading bytes) → length bytes ≤ mostBytes
@@ -89,7 +89,7 @@ module _ (bytes : List ℕ) where
   accepted-fits e = let a = was-accepted (reading bytes) e in accepted-length bytes (a .0) (a .1)
 
   pub loaded-record : (sheet : Sheet) → reading bytes ≡ gives sheet → loaded bytes ≡ recordOf bytes []
-  unfolding recordFor
+  unfolding givenOr
   loaded-record sheet read = loaded-for (gives sheet) read
 
   -- Of accepted bytes the record is they and zeros behind them, with no replies.
@@ -100,5 +100,5 @@ module _ (bytes : List ℕ) where
 
   -- Of refused bytes the record is that of zeros.
   pub loaded-refused : (r : Refusal) → answerOf (Acceptance.Refused r) ≡ withoutValue (reading bytes) → loaded bytes ≡ zeros
-  unfolding answerOf recordFor
+  unfolding answerOf givenOr
   loaded-refused r e = loaded-for (refused (numberOf r)) (was-refused (reading bytes) (numberOf r) e)

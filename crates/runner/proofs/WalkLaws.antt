@@ -22,8 +22,8 @@ use Rattle.semantics.proofs.ReplyLaws.{follows-history, follows-before, left-ne
 use Rattle.semantics.proofs.AcceptedLaws.{starts}
 use Rattle.routine.specs.declared.memory.Head.{Head}
 use Rattle.routine.specs.Memory.{Sized, headAt}
-use Rattle.routine.specs.Tables.{startOf, prepared, sheetHeads, nodeCells, setWords, sheetStart}
-use Rattle.routine.proofs.TableLaws.{Tabled, prepared-tabled}
+use Rattle.routine.specs.Tables.{startOf, prepared, sheetStart, TablesAfter}
+use Rattle.routine.proofs.TableLaws.{Tabled, tables-tabled}
 use Rattle.progression.specs.declared.place.Place.{Place}
 use Rattle.progression.specs.Machine.{settled, effect, stepped}
 use Rattle.progression.proofs.RoutineLaws.{Reached, AtAction, AtEnd, start-reached, reached-place, reached-occurs}
@@ -33,8 +33,8 @@ use Rattle.runner.specs.declared.answer.Reported.{Reported}
 use Rattle.runner.specs.declared.walk.Walked.{Walked}
 use Rattle.runner.specs.declared.walk.Judged.{Judged}
 use Rattle.runner.specs.declared.calls.Record.{Record}
-use Rattle.runner.specs.Records.{heldSheet, heldReplies, badRecord, isPadded, sheetIn, areReplies, heldBy, nextOn, reportOn}
-use Rattle.runner.specs.Answers.{toldOf, reportedOf}
+use Rattle.runner.specs.Records.{heldSheet, heldReplies, isPadded, sheetIn, areReplies, heldBy, nextOn, reportOn}
+use Rattle.runner.specs.Answers.{badRecord, toldOf, reportedOf}
 use Rattle.runner.specs.Walks.{walkedOf, goesOn, standsFrom, standsBy, walked, stands, judged, judgedAt, toldAt, acceptedAt}
 use Rattle.runner.proofs.CallLaws.{sheet-padded, sheet-not, held-is, held-refused}
 use Rattle.runner.proofs.StandLaws.{none-left, one-left, end-stops, none-possible, some-possible, answered, judged-by}
@@ -334,18 +334,19 @@ module _ (r : Record) where
     unfolding heldSheet
     stands-walked e w q = q ∙ sym (is-there e)
 
-  pub unprepared : isPadded mostBytes (r .sheet) (r .len) ≡ false → (has : Sheet → List ℕ) (memory : List ℕ) → memory ≡ prepared has (sheetIn r) memory
+  -- The tables of the record's sheet: as they were where it is refused before it is read, else those that were prepared.
+  pub unprepared : isPadded mostBytes (r .sheet) (r .len) ≡ false → (heads nodes sets : List ℕ) → TablesAfter (sheetIn r) heads nodes sets heads nodes sets
   unfolding prepared
-  unprepared e has memory = sym (ap (λ (a : Answer Sheet). prepared has a memory) (sheet-not r e))
+  unprepared e heads nodes sets = subst (λ (a : Answer Sheet). TablesAfter a heads nodes sets heads nodes sets) (sym (sheet-not r e)) (refl, refl, refl)
 
-  pub was-prepared : isPadded mostBytes (r .sheet) (r .len) ≡ true → (has : Sheet → List ℕ) (memory after : List ℕ) → after ≡ prepared has (reading (take (r .len) (r .sheet))) memory
-      → after ≡ prepared has (sheetIn r) memory
+  pub was-prepared : isPadded mostBytes (r .sheet) (r .len) ≡ true → (heads nodes sets heads′ nodes′ sets′ : List ℕ)
+      → TablesAfter (reading (take (r .len) (r .sheet))) heads nodes sets heads′ nodes′ sets′ → TablesAfter (sheetIn r) heads nodes sets heads′ nodes′ sets′
   unfolding heldSheet
-  was-prepared e has memory after q = q ∙ sym (ap (λ (a : Answer Sheet). prepared has a memory) (sheet-padded r e))
+  was-prepared e heads nodes sets heads′ nodes′ sets′ t = subst (λ (a : Answer Sheet). TablesAfter a heads nodes sets heads′ nodes′ sets′) (sym (sheet-padded r e)) t
 
 -- Of a record, by the tables that were prepared for it.
-module _ (r : Record) (heads nodes sets : List ℕ) (sized : Sized heads nodes sets) (heads′ nodes′ sets′ : List ℕ) (h′ : heads′ ≡ prepared sheetHeads (sheetIn r) heads)
-    (n′ : nodes′ ≡ prepared nodeCells (sheetIn r) nodes) (s′ : sets′ ≡ prepared setWords (sheetIn r) sets) where
+module _ (r : Record) (heads nodes sets : List ℕ) (sized : Sized heads nodes sets) (heads′ nodes′ sets′ : List ℕ)
+    (tables : TablesAfter (sheetIn r) heads nodes sets heads′ nodes′ sets′) where
   abbrev there : Answer Walked
   there = stands heads′ nodes′ sets′ r
 
@@ -365,12 +366,8 @@ module _ (r : Record) (heads nodes sets : List ℕ) (sized : Sized heads nodes s
 
     tabled-there : Tabled sheet heads′ nodes′ sets′
     tabled-there =
-        let t = prepared-tabled (heldSheet r) sheet read heads nodes sets sized in
-        let same : sheetIn r ≡ reading (heldSheet r) = sheet-padded r e in
-        subst (λ (x : List ℕ). Tabled sheet x nodes′ sets′) (sym (h′ ∙ ap (λ (a : Answer Sheet). prepared sheetHeads a heads) same))
-        (subst (λ (x : List ℕ). Tabled sheet (prepared sheetHeads (reading (heldSheet r)) heads) x sets′) (sym (n′ ∙ ap (λ (a : Answer Sheet). prepared nodeCells a nodes) same))
-        (subst (λ (x : List ℕ). Tabled sheet (prepared sheetHeads (reading (heldSheet r)) heads) (prepared nodeCells (reading (heldSheet r)) nodes) x)
-        (sym (s′ ∙ ap (λ (a : Answer Sheet). prepared setWords a sets) same)) t))
+        tables-tabled (heldSheet r) sheet read heads nodes sets sized heads′ nodes′ sets′
+        (subst (λ (a : Answer Sheet). TablesAfter a heads nodes sets heads′ nodes′ sets′) (sheet-padded r e) tables)
 
     abbrev followed : Walked
     followed = standsFrom heads′ nodes′ sets′ (sheetStart sheet) 0 (heldReplies r)

@@ -13,12 +13,16 @@ rejectionNumber Rejection.AtEnd = 32
 rejectionNumber Rejection.NoSuchReply = 33
 rejectionNumber Rejection.NotPossible = 34
 
+-- 31.
+abbrev pub badRecord : {A : Type 0} → Answer A
+badRecord = refused (rejectionNumber Rejection.BadRecord)
+
 -- "Next" tells "the action to do, or that the routine is at its end and whether the goal holds", and "gives only 31".
 unfoldable pub toldOf : Told → Answer Meant
 unfolding rejectionNumber
 toldOf (Told.Act a) = gives (to-do a)
 toldOf (Told.End holds) = gives (at-end holds)
-toldOf Told.BadRecord = refused (rejectionNumber Rejection.BadRecord)
+toldOf Told.BadRecord = badRecord
 
 -- "A reply is accepted if its report isn't refused."
 unfoldable pub reportedOf : Reported → Answer (Unit {0})

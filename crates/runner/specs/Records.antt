@@ -7,12 +7,11 @@ use lib.Dec.{leb, eqb}
 use lib.ListN.{length, replicate, take, drop}
 use Rattle.lists.specs.Lists.{if_then_else_, every}
 use Rattle.format.specs.Syntax.{Sheet}
-use Rattle.format.specs.Format.{Answer, gives, refused, onAccepted, mostBytes, mostActs, reading}
+use Rattle.format.specs.Format.{Answer, gives, refused, onAccepted, givenOr, mostBytes, mostActs, reading}
 use Rattle.semantics.specs.Replies.{Told, to-do, at-end, told, reported, areOfRun}
 use Rattle.semantics.specs.Cases.{sheet1, sheet2}
-use Rattle.runner.specs.declared.answer.Rejection.{Rejection}
 use Rattle.runner.specs.declared.calls.Record.{Record}
-use Rattle.runner.specs.Answers.{rejectionNumber}
+use Rattle.runner.specs.Answers.{rejectionNumber, badRecord}
 
 -- "Bytes past the lengths are 0": bytes, and zeros behind them up to a length.
 unfoldable pub padded : (l : ℕ) → List ℕ → List ℕ
@@ -32,15 +31,10 @@ recordOf bytes rs = record { sheet = padded mostBytes bytes; len = length bytes;
 unfoldable pub zeros : Record
 zeros = record { sheet = replicate mostBytes 0; len = 0; replies = replicate mostActs 0; count = 0 }
 
--- The record that a call returns: that of what is accepted, or after a refusal another.
-unfoldable pub recordFor : {A : Type 0} → (otherwise : Record) → (A → Record) → Answer A → Record
-recordFor otherwise made (gives a) = made a
-recordFor otherwise made (refused k) = otherwise
-
 -- "Loading gives a record with no replies."
 unfoldable pub loaded : (bytes : List ℕ) → Record
-unfolding recordFor recordOf zeros reading
-loaded bytes = recordFor zeros (λ sheet. recordOf bytes []) (reading bytes)
+unfolding givenOr recordOf zeros reading
+loaded bytes = givenOr zeros (λ sheet. recordOf bytes []) (reading bytes)
 
 -- The bytes of a record's sheet, and its replies: those before the lengths.
 unfoldable pub heldSheet : Record → List ℕ
@@ -48,10 +42,6 @@ heldSheet r = take (r .len) (r .sheet)
 
 unfoldable pub heldReplies : Record → List ℕ
 heldReplies r = take (r .count) (r .replies)
-
--- 31.
-abbrev pub badRecord : {A : Type 0} → Answer A
-badRecord = refused (rejectionNumber Rejection.BadRecord)
 
 -- A length is at most what an array holds, and no "byte past a length isn't 0".
 unfoldable pub isPadded : (most : ℕ) (bytes : List ℕ) (n : ℕ) → Bool
@@ -91,8 +81,8 @@ reportOn r reply = onAccepted (λ sheet. reported sheet (heldReplies r) reply) (
 
 -- The record with the replies then; after a refusal "The record comes back unchanged".
 unfoldable pub recordAfter : Record → (reply : ℕ) → Record
-unfolding recordFor recordOf heldSheet reportOn
-recordAfter r reply = recordFor r (recordOf (heldSheet r)) (reportOn r reply)
+unfolding givenOr recordOf heldSheet reportOn
+recordAfter r reply = givenOr r (recordOf (heldSheet r)) (reportOn r reply)
 
 -- Examples, evaluated. The sheets of cases 1 and 2 of document 01: one fact, of which nothing is known, and action 0, which asks for it (reply 0: it is true; 1: it is
 -- false) and is the whole routine. In case 1 the goal is that one knows whether the fact is true, in case 2 that one knows that it is. `twice` is case 2 with the action done twice.

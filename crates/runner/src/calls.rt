@@ -20,7 +20,7 @@ ghost use lib.ListN.{length};
 ghost use Rattle.format.specs.Format.{mostBytes, reading};
 ghost use Rattle.reader.specs.Answers.{withoutValue, answerOf};
 ghost use Rattle.routine.specs.Memory.{Sized};
-ghost use Rattle.routine.specs.Tables.{prepared as preparedBy, sheetHeads, nodeCells, setWords};
+ghost use Rattle.routine.specs.Tables.{TablesAfter};
 ghost use Rattle.runner.specs.Records.{padded, zeros, loaded, sheetIn, nextOn, reportOn, recordAfter};
 ghost use Rattle.runner.specs.Answers.{toldOf, reportedOf};
 ghost use Rattle.runner.specs.Walks.{walkedOf, stands};
@@ -125,7 +125,7 @@ impl Record {
         nodes: &mut [u16; NODE_CELLS],
         sets: &mut [u64; SET_WORDS],
     ) -> AfterLoad
-        ensures { λ r. ⌜ (answerOf (r .answer) ≡ withoutValue (reading (now (bytes .entry)))) × (r .kept ≡ loaded (now (bytes .entry))) × (now (heads .exit) ≡ preparedBy sheetHeads (reading (now (bytes .entry))) (now (heads .entry))) × (now (nodes .exit) ≡ preparedBy nodeCells (reading (now (bytes .entry))) (now (nodes .entry))) × (now (sets .exit) ≡ preparedBy setWords (reading (now (bytes .entry))) (now (sets .entry))) ⌝ }
+        ensures { λ r. ⌜ (answerOf (r .answer) ≡ withoutValue (reading (now (bytes .entry)))) × (r .kept ≡ loaded (now (bytes .entry))) × TablesAfter (reading (now (bytes .entry))) (now (heads .entry)) (now (nodes .entry)) (now (sets .entry)) (now (heads .exit)) (now (nodes .exit)) (now (sets .exit)) ⌝ }
     {
         let none = [0u8; Record::REPLIES];
         let walked = walk(bytes, &none, 0, heads, nodes, sets);
@@ -140,7 +140,7 @@ impl Record {
         nodes: &mut [u16; NODE_CELLS],
         sets: &mut [u64; SET_WORDS],
     ) -> Walked
-        ensures { λ r. ⌜ (walkedOf r ≡ stands (now (heads .exit)) (now (nodes .exit)) (now (sets .exit)) self) × (now (heads .exit) ≡ preparedBy sheetHeads (sheetIn self) (now (heads .entry))) × (now (nodes .exit) ≡ preparedBy nodeCells (sheetIn self) (now (nodes .entry))) × (now (sets .exit) ≡ preparedBy setWords (sheetIn self) (now (sets .entry))) ⌝ }
+        ensures { λ r. ⌜ (walkedOf r ≡ stands (now (heads .exit)) (now (nodes .exit)) (now (sets .exit)) self) × TablesAfter (sheetIn self) (now (heads .entry)) (now (nodes .entry)) (now (sets .entry)) (now (heads .exit)) (now (nodes .exit)) (now (sets .exit)) ⌝ }
     {
         let len = self.len;
         let count = self.count;
@@ -159,7 +159,7 @@ impl Record {
         nodes: &mut [u16; NODE_CELLS],
         sets: &mut [u64; SET_WORDS],
     ) -> AfterNext
-        ensures { λ r. ⌜ (Sized (now (heads .entry)) (now (nodes .entry)) (now (sets .entry)) → toldOf (r .answer) ≡ nextOn self) × (r .kept ≡ self) × (now (heads .exit) ≡ preparedBy sheetHeads (sheetIn self) (now (heads .entry))) × (now (nodes .exit) ≡ preparedBy nodeCells (sheetIn self) (now (nodes .entry))) × (now (sets .exit) ≡ preparedBy setWords (sheetIn self) (now (sets .entry))) ⌝ }
+        ensures { λ r. ⌜ (Sized (now (heads .entry)) (now (nodes .entry)) (now (sets .entry)) → toldOf (r .answer) ≡ nextOn self) × (r .kept ≡ self) × TablesAfter (sheetIn self) (now (heads .entry)) (now (nodes .entry)) (now (sets .entry)) (now (heads .exit)) (now (nodes .exit)) (now (sets .exit)) ⌝ }
     {
         let walked = self.stand_in(heads, nodes, sets);
         let answer = tell(walked);
@@ -186,7 +186,7 @@ impl Record {
         nodes: &mut [u16; NODE_CELLS],
         sets: &mut [u64; SET_WORDS],
     ) -> AfterReport
-        ensures { λ r. ⌜ (Sized (now (heads .entry)) (now (nodes .entry)) (now (sets .entry)) → (reportedOf (r .answer) ≡ withoutValue (reportOn self reply)) × (r .kept ≡ recordAfter self reply)) × (now (heads .exit) ≡ preparedBy sheetHeads (sheetIn self) (now (heads .entry))) × (now (nodes .exit) ≡ preparedBy nodeCells (sheetIn self) (now (nodes .entry))) × (now (sets .exit) ≡ preparedBy setWords (sheetIn self) (now (sets .entry))) ⌝ }
+        ensures { λ r. ⌜ (Sized (now (heads .entry)) (now (nodes .entry)) (now (sets .entry)) → (reportedOf (r .answer) ≡ withoutValue (reportOn self reply)) × (r .kept ≡ recordAfter self reply)) × TablesAfter (sheetIn self) (now (heads .entry)) (now (nodes .entry)) (now (sets .entry)) (now (heads .exit)) (now (nodes .exit)) (now (sets .exit)) ⌝ }
     {
         let walked = self.stand_in(heads, nodes, sets);
         match add(heads, sets, walked, reply as usize) {

@@ -18,7 +18,7 @@ use states::States;
 ghost use mathlib.Core.Path.{_≡_};
 ghost use lib.ListN.{length};
 ghost use Rattle.format.specs.Format.{gives, mostActs, reading};
-ghost use Rattle.routine.specs.Tables.{prepared as preparedBy, sheetHeads, nodeCells, setWords};
+ghost use Rattle.routine.specs.Tables.{TablesAfter};
 ghost use Rattle.runner.specs.Records.{areZero, isPadded};
 ghost use Rattle.runner.specs.Walks.{walkedOf, standsFrom, walked as walkedBy, judged, judgedAt, toldAt, acceptedAt};
 
@@ -103,7 +103,7 @@ pub(crate) fn walk(
     sets: &mut [u64; SET_WORDS],
 ) -> Walked
     requires { ⌜ length (now replies) ≡ mostActs ⌝ }
-    ensures { λ r. ⌜ (walkedOf r ≡ walkedBy (now (heads .exit)) (now (nodes .exit)) (now (sets .exit)) (now (bytes .entry)) (now (replies .entry)) count) × (now (heads .exit) ≡ preparedBy sheetHeads (reading (now (bytes .entry))) (now (heads .entry))) × (now (nodes .exit) ≡ preparedBy nodeCells (reading (now (bytes .entry))) (now (nodes .entry))) × (now (sets .exit) ≡ preparedBy setWords (reading (now (bytes .entry))) (now (sets .entry))) ⌝ }
+    ensures { λ r. ⌜ (walkedOf r ≡ walkedBy (now (heads .exit)) (now (nodes .exit)) (now (sets .exit)) (now (bytes .entry)) (now (replies .entry)) count) × TablesAfter (reading (now (bytes .entry))) (now (heads .entry)) (now (nodes .entry)) (now (sets .entry)) (now (heads .exit)) (now (nodes .exit)) (now (sets .exit)) ⌝ }
 {
     match prepare(bytes, heads, nodes, sets) {
         Prepared::Refused(r) => Walked::Refused(r),

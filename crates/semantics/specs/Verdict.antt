@@ -8,7 +8,7 @@ use lib.Dec.{ltb}
 use lib.ListN.{length, drop}
 use Rattle.lists.specs.Lists.{if_then_else_, upFrom, below, keep, upTo, nonempty, Before}
 use Rattle.format.specs.Syntax.{replyCount, Sheet, actionOf}
-use Rattle.format.specs.Format.{Answer, gives, refused, onAccepted, mostActs, reading}
+use Rattle.format.specs.Format.{Answer, gives, refused, onAccepted, givenOr, mostActs, reading}
 use Rattle.semantics.specs.Runs.{History, extended, replies, runs, holdsAfter, occurs}
 use Rattle.semantics.specs.Routine.{Policy, done, perform, routine, isFull}
 
@@ -102,8 +102,8 @@ unfolding onAccepted
 verdictOf = onAccepted (λ o. gives (o .verdict))
 
 unfoldable pub shownBy : Answer Outcome → List ℕ
-shownBy (gives o) = o .shown
-shownBy (refused r) = []
+unfolding givenOr
+shownBy = givenOr [] (λ o. o .shown)
 
 -- The trace memory after a call: "the failing trace followed by its old bytes, or only its old bytes" (demand 1).
 unfoldable pub written : (shown old : List ℕ) → List ℕ

@@ -23,8 +23,8 @@ use Rattle.semantics.proofs.MemoryLaws.{admitted-long, admitted-short, verified
 use Rattle.semantics.proofs.AcceptedLaws.{EntriesFit, starts, entries-fit}
 use Rattle.routine.specs.declared.sheet.Prepared.{Prepared}
 use Rattle.routine.specs.Memory.{Sized}
-use Rattle.routine.specs.Tables.{sheetStart, preparedOf, startOf, prepared, sheetHeads, nodeCells, setWords}
-use Rattle.routine.proofs.TableLaws.{Tabled, prepared-tabled, ready-sheet, refused-sheet}
+use Rattle.routine.specs.Tables.{sheetStart, preparedOf, startOf, prepared, TablesAfter}
+use Rattle.routine.proofs.TableLaws.{Tabled, tables-tabled, ready-sheet, refused-sheet}
 use Rattle.verifier.specs.declared.search.Searched.{Searched}
 use Rattle.verifier.specs.declared.verdict.Verdict.{Verdict}
 use Rattle.verifier.specs.Search.{Found, passed, failed, over, searched, pathByte, pathBytes, searchedOf, SearchedBy}
@@ -191,35 +191,33 @@ parts r memory v e = (ap (λ (x : Verified). x .answer) e, ap (λ (x : Verified)
 module _ (bytes : List ℕ) (budget : ℕ) (old heads nodes sets memo : List ℕ) where
   -- The tables and the memo for a sheet or a refusal.
   abbrev Left : Answer Sheet → (heads′ nodes′ sets′ memo′ : List ℕ) → Type 0
-  Left a heads′ nodes′ sets′ memo′ = (heads′ ≡ prepared sheetHeads a heads) × (nodes′ ≡ prepared nodeCells a nodes) × (sets′ ≡ prepared setWords a sets) × (memo′ ≡ cleared a memo)
+  Left a heads′ nodes′ sets′ memo′ = (memo′ ≡ cleared a memo) × TablesAfter a heads nodes sets heads′ nodes′ sets′
 
   -- The answer and the trace memory are those of the definition, where the tables have their lengths; and so are the tables and the memo.
   abbrev Answered : Verdict → (memory heads′ nodes′ sets′ memo′ : List ℕ) → Type 0
   Answered r memory heads′ nodes′ sets′ memo′ =
       (Sized heads nodes sets → verifiedBy r memory ≡ verified bytes budget old)
-      × (heads′ ≡ prepared sheetHeads (admitted bytes old) heads)
-      × (nodes′ ≡ prepared nodeCells (admitted bytes old) nodes)
-      × (sets′ ≡ prepared setWords (admitted bytes old) sets)
       × (memo′ ≡ cleared (admitted bytes old) memo)
+      × TablesAfter (admitted bytes old) heads nodes sets heads′ nodes′ sets′
 
   answered : (a : Answer Sheet) → admitted bytes old ≡ a → (r : Verdict) (memory heads′ nodes′ sets′ memo′ : List ℕ)
       → (Sized heads nodes sets → verifiedBy r memory ≡ verified bytes budget old) → Left a heads′ nodes′ sets′ memo′ → Answered r memory heads′ nodes′ sets′ memo′
   answered a e r memory heads′ nodes′ sets′ memo′ v k =
       let m = subst (λ (b : Answer Sheet). Left b heads′ nodes′ sets′ memo′) (sym e) k in
-      (v, m .0, m .1, m .2, m .3)
+      (v, m .0, m .1)
 
   pub short-answered : length old < longestTrace → Answered Verdict.ShortMemory old heads nodes sets memo
   unfolding verifiedBy answerOf prepared cleared
-  short-answered l = answered (shortMemory) (admitted-short bytes old l) Verdict.ShortMemory old heads nodes sets memo (λ z. sym (verified-short bytes budget old l)) (refl, refl, refl, refl)
+  short-answered l = answered (shortMemory) (admitted-short bytes old l) Verdict.ShortMemory old heads nodes sets memo (λ z. sym (verified-short bytes budget old l)) (refl, (refl, refl, refl))
 
   module _ (enough : LongEnough old) (heads′ nodes′ sets′ : List ℕ) (p : Prepared)
-      (tables : (preparedOf p ≡ startOf (reading bytes)) × (heads′ ≡ prepared sheetHeads (reading bytes) heads) × (nodes′ ≡ prepared nodeCells (reading bytes) nodes) × (sets′ ≡ prepared setWords (reading bytes) sets)) where
+      (tables : (preparedOf p ≡ startOf (reading bytes)) × TablesAfter (reading bytes) heads nodes sets heads′ nodes′ sets′) where
     pub refused-answered : (r : Refusal) → p ≡ Prepared.Refused r → Answered (Verdict.Refused r) old heads′ nodes′ sets′ memo
     unfolding verifiedBy answerOf cleared
     refused-answered r e =
         let q = refused-sheet (reading bytes) r (sym (ap preparedOf e) ∙ tables .0) in
         answered (reading bytes) (admitted-long bytes old enough) (Verdict.Refused r) old heads′ nodes′ sets′ memo
-        (λ z. sym (verified-refused bytes (numberOf r) q budget old enough)) (tables .1, tables .2, tables .3, ap (λ (a : Answer Sheet). cleared a memo) (sym q))
+        (λ z. sym (verified-refused bytes (numberOf r) q budget old enough)) (ap (λ (a : Answer Sheet). cleared a memo) (sym q), tables .1)
 
     pub ready-answered : (start : States) → p ≡ Prepared.Ready start → (r : Verdict) (memory memo′ : List ℕ)
         → (r ≡ verdictFor budget (searched heads′ nodes′ sets′ budget mostActs 0 start 0)) × (memory ≡ memoryFor heads′ sets′ start (searched heads′ nodes′ sets′ budget mostActs 0 start 0) old) × (memo′ ≡ emptyMemo)
@@ -230,11 +228,11 @@ module _ (bytes : List ℕ) (budget : ℕ) (old heads nodes sets memo : List ℕ
         let sheet = q .0 in
         let at : (States → Found) = λ s. searched heads′ nodes′ sets′ budget mostActs 0 s 0 in
         let verdict : (Sized heads nodes sets → verifiedBy r memory ≡ verified bytes budget old) = λ z.
-        let tabled : Tabled sheet heads′ nodes′ sets′ = rw (tables .1, tables .2, tables .3) (prepared-tabled bytes sheet (q .1) heads nodes sets z) in
+        let tabled : Tabled sheet heads′ nodes′ sets′ = tables-tabled bytes sheet (q .1) heads nodes sets z heads′ nodes′ sets′ (tables .1) in
         let d = decides bytes sheet (q .1) heads′ nodes′ sets′ tabled budget in
         let x = ap answerOf (k .0 ∙ ap (λ (s : States). verdictFor budget (at s)) (q .2)) ∙ d .0 in
         let y = k .1 ∙ ap (λ (s : States). memoryFor heads′ sets′ s (at s) old) (q .2) ∙ d .1 old in
         let same : verifiedBy r memory ≡ record { answer = gives (outcome sheet budget .verdict); memory = written (outcome sheet budget .shown) old } = λ i. record { answer = x i; memory = y i } in
         same ∙ sym (verified-accepted bytes sheet (q .1) budget old enough) in
         answered (reading bytes) (admitted-long bytes old enough) r memory heads′ nodes′ sets′ memo′ verdict
-        (tables .1, tables .2, tables .3, k .2 ∙ ap (λ (a : Answer Sheet). cleared a memo) (sym (q .1)))
+        (k .2 ∙ ap (λ (a : Answer Sheet). cleared a memo) (sym (q .1)), tables .1)

@@ -3,7 +3,7 @@ use Prim.Native.Nat.{ℕ, _*_}
 use mathlib.Core.List.{List}
 use lib.ListN.{replicate}
 use Rattle.format.specs.Syntax.{Sheet}
-use Rattle.format.specs.Format.{Answer, gives, refused}
+use Rattle.format.specs.Format.{Answer, gives, refused, givenOr}
 use Rattle.reader.specs.Answers.{numberOf}
 use Rattle.semantics.specs.Verdict.{Verdict as Meant, valid, invalid, stopped, Verified, shortMemory}
 use Rattle.verifier.specs.declared.verdict.Verdict.{Verdict}
@@ -34,5 +34,5 @@ emptyMemo = replicate (slotSize * slotMost) 0
 
 -- That memory after a call: all of it is zeros, whatever it held before. A refusal leaves it as it was.
 unfoldable pub cleared : Answer Sheet → (memo : List ℕ) → List ℕ
-cleared (gives sheet) memo = emptyMemo
-cleared (refused r) memo = memo
+unfolding givenOr
+cleared answer memo = givenOr memo (λ (sheet : Sheet). emptyMemo) answer

@@ -17,7 +17,7 @@ ghost use Rattle.format.specs.Format.{mostActs};
 ghost use Rattle.reader.specs.Answers.{numberFor};
 ghost use Rattle.semantics.specs.Verdict.{LongEnough, admitted, verified};
 ghost use Rattle.routine.specs.Memory.{Sized};
-ghost use Rattle.routine.specs.Tables.{prepared as preparedBy, sheetHeads, nodeCells, setWords};
+ghost use Rattle.routine.specs.Tables.{TablesAfter};
 ghost use Rattle.verifier.specs.Search.{searched};
 ghost use Rattle.verifier.specs.Answers.{answerOf, verifiedBy, emptyMemo, cleared};
 ghost use Rattle.verifier.specs.Concluding.{verdictFor, memoryFor};
@@ -85,7 +85,7 @@ pub fn verify_in(
     sets: &mut [u64; SET_WORDS],
     memo: &mut [u64; MEMO_WORDS],
 ) -> Verdict
-    ensures { λ r. ⌜ (Sized (now (heads .entry)) (now (nodes .entry)) (now (sets .entry)) → verifiedBy r (now (trace .exit)) ≡ verified (now (bytes .entry)) budget (now (trace .entry))) × (now (heads .exit) ≡ preparedBy sheetHeads (admitted (now (bytes .entry)) (now (trace .entry))) (now (heads .entry))) × (now (nodes .exit) ≡ preparedBy nodeCells (admitted (now (bytes .entry)) (now (trace .entry))) (now (nodes .entry))) × (now (sets .exit) ≡ preparedBy setWords (admitted (now (bytes .entry)) (now (trace .entry))) (now (sets .entry))) × (now (memo .exit) ≡ cleared (admitted (now (bytes .entry)) (now (trace .entry))) (now (memo .entry))) ⌝ }
+    ensures { λ r. ⌜ (Sized (now (heads .entry)) (now (nodes .entry)) (now (sets .entry)) → verifiedBy r (now (trace .exit)) ≡ verified (now (bytes .entry)) budget (now (trace .entry))) × (now (memo .exit) ≡ cleared (admitted (now (bytes .entry)) (now (trace .entry))) (now (memo .entry))) × TablesAfter (admitted (now (bytes .entry)) (now (trace .entry))) (now (heads .entry)) (now (nodes .entry)) (now (sets .entry)) (now (heads .exit)) (now (nodes .exit)) (now (sets .exit)) ⌝ }
 {
     if trace.len() < TRACE {
         return Verdict::ShortMemory;

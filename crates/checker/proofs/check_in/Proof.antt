@@ -24,20 +24,20 @@ unfolding answerOf
 returns c =
     let s = c .before .before .before .before .before .before in
     let p = s .before .before .prepare .ensures in
-    (ready-checked _ _ _ (sym (ap preparedOf (s .start .given .1)) ∙ p .0) _ _ _ _ _ _ (p .1) (p .2) (p .3) _ _ (c .before .shows .ensures) (c .if1 .taken), p .1, p .2, p .3)
+    (ready-checked _ _ _ (sym (ap preparedOf (s .start .given .1)) ∙ p .0) _ _ _ _ _ _ (p .1) _ _ (c .before .shows .ensures) (c .if1 .taken), p .1)
 
 returns-2 : tie.Need-returns-2
 unfolding answerOf
 returns-2 c =
     let p = c .before .before .before .prepare .ensures in
-    (λ z. refused-checked _ _ _ (sym (ap preparedOf (c .before .r .given .1)) ∙ p .0), p .1, p .2, p .3)
+    (λ z. refused-checked _ _ _ (sym (ap preparedOf (c .before .r .given .1)) ∙ p .0), p .1)
 
 returns-3 : tie.Need-returns-3
 unfolding answerOf
 returns-3 c =
     let s = c .before .before .before .before .before .before in
     let p = s .before .before .prepare .ensures in
-    (ready-checked _ _ _ (sym (ap preparedOf (s .start .given .1)) ∙ p .0) _ _ _ _ _ _ (p .1) (p .2) (p .3) _ _ (c .before .shows .ensures) (c .if1 .left), p .1, p .2, p .3)
+    (ready-checked _ _ _ (sym (ap preparedOf (s .start .given .1)) ∙ p .0) _ _ _ _ _ _ (p .1) _ _ (c .before .shows .ensures) (c .if1 .left), p .1)
 
 pub check-in-spec : {M : Type 1} → statement M
 check-in-spec =

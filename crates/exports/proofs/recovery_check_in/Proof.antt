@@ -14,7 +14,7 @@ checked-number-requires c κs = search needs
 returns : tie.Need-returns
 returns c =
     let k = c .before .check-in .ensures in
-    (λ z. c .checked-number .ensures ∙ ap checkedNumber (k .0 z), k .1, k .2, k .3)
+    (λ z. c .checked-number .ensures ∙ ap checkedNumber (k .0 z), k .1)
 
 pub recovery-check-in-spec : {M : Type 1} → statement M
 recovery-check-in-spec = tie.close (tie.spec check-in-requires checked-number-requires returns)

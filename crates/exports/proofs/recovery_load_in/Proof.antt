@@ -19,7 +19,7 @@ returns c =
     let load = c .before .before .before .before .before .before .load-in .ensures in
     let parts = record-parts _ _ (load .1) in
     let put = c .before .put-replies .ensures in
-    (c .answer-number .ensures ∙ same-number _ _ (load .0), parts .0, put .0 ∙ parts .1, put .1 ∙ parts .2, load .2, load .3, load .4)
+    (c .answer-number .ensures ∙ same-number _ _ (load .0), parts .0, put .0 ∙ parts .1, put .1 ∙ parts .2, load .2)
 
 pub recovery-load-in-spec : {M : Type 1} → statement M
 recovery-load-in-spec =

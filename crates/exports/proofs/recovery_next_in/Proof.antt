@@ -1,5 +1,4 @@
 -- `exports::recovery_next_in` meets its contract: the numbers are those of the answer of `Record::next_in` to the record that was lent, which writes the tables. Assumes nothing.
-use Rattle.routine.specs.Tables.{sheetHeads, nodeCells, setWords}
 use Rattle.exports.proofs.NumberLaws.{told-lent, tables-lent}
 use borrow.Author.Needs.{needs}
 use Rattle.exports.proofs.recovery_next_in.Statement.{statement}
@@ -20,9 +19,7 @@ returns c =
     let lent = c .before .before .before .before .before .before .lent-record .ensures in
     let next = c .before .before .next-in .ensures in (
       λ sized. told-lent _ _ _ _ _ _ lent (next .0 sized) (put .0) (put .1),
-      tables-lent _ _ lent sheetHeads _ _ (next .2),
-      tables-lent _ _ lent nodeCells _ _ (next .3),
-      tables-lent _ _ lent setWords _ _ (next .4),
+      tables-lent _ _ lent _ _ _ _ _ _ (next .2),
     )
 
 pub recovery-next-in-spec : {M : Type 1} → statement M

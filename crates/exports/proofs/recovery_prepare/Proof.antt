@@ -27,7 +27,7 @@ returns c =
     let p = c .before .before .before .before .prepare .ensures in
     let e = sym (ap preparedOf (c .before .before .r .given .1)) ∙ p .0 in
     let l = tables-refused _ _ e _ in
-    (c .number .ensures ∙ l .0, p .1, p .2, p .3, l .1)
+    (c .number .ensures ∙ l .0, l .1, p .1)
 
 returns-2 : tie.Need-returns-2
 unfolding preparedOf
@@ -35,7 +35,7 @@ returns-2 c =
     let p = c .before .before .before .before .prepare .ensures in
     let e = sym (ap preparedOf (c .before .before .set .given .1)) ∙ p .0 in
     let l = tables-ready _ _ e _ _ (c .words .ensures) in
-    (l .0, p .1, p .2, p .3, l .1)
+    (l .0, l .1, p .1)
 
 pub recovery-prepare-spec : {M : Type 1} → statement M
 recovery-prepare-spec =

@@ -1,7 +1,6 @@
 -- `exports::recovery_report_in` meets its contract: the number is that of the answer of `Record::report_in` to the record that was lent, which writes the tables, and the parts of
 -- the record after it are written. Assumes nothing.
 use mathlib.Core.Path.{_∙_}
-use Rattle.routine.specs.Tables.{sheetHeads, nodeCells, setWords}
 use Rattle.exports.proofs.NumberLaws.{tables-lent, report-number, report-parts}
 use borrow.Author.Needs.{needs}
 use Rattle.exports.proofs.recovery_report_in.Statement.{statement}
@@ -28,9 +27,7 @@ returns c =
       λ sized.
           let parts = report-parts _ _ _ _ lent (report .0 sized .1) in
           (c .report-number .ensures ∙ report-number _ _ _ _ lent (report .0 sized .0), put .0 ∙ parts .0, put .1 ∙ parts .1),
-      tables-lent _ _ lent sheetHeads _ _ (report .1),
-      tables-lent _ _ lent nodeCells _ _ (report .2),
-      tables-lent _ _ lent setWords _ _ (report .3),
+      tables-lent _ _ lent _ _ _ _ _ _ (report .1),
     )
 
 pub recovery-report-in-spec : {M : Type 1} → statement M

@@ -19,7 +19,7 @@ same-length c = search needs
 returns : tie.Need-returns
 returns c =
     let k = c .before .before .before .before .before .verify-in .ensures in
-    (λ z. verdict-numbers _ _ _ (k .0 z) _ _ _ (c .before .put-verdict .ensures) (c .number .ensures), k .1, k .2, k .3, k .4)
+    (λ z. verdict-numbers _ _ _ (k .0 z) _ _ _ (c .before .put-verdict .ensures) (c .number .ensures), k .1, k .2)
 
 pub recovery-verify-in-spec : {M : Type 1} → statement M
 recovery-verify-in-spec =

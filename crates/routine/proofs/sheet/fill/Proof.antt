@@ -87,9 +87,11 @@ returns-3 c =
     let actions = c .before .before .before .before .before .before .before .before .fill-actions .ensures in
     let goal = c .before .fill-routine .ensures in (
       start-accepted bytes sheet read _ (start-filled bytes sheet read h is-header _ _ _ _ _ actions _ _ (is .0) (is .1) _ (c .intersect .ensures)),
-      prepared-accepted bytes sheet read sheetHeads _ _ (heads-filled bytes sheet read h is-header _ _ _ _ _ actions),
-      prepared-accepted bytes sheet read nodeCells _ _ (nodes-filled bytes sheet read h is-header _ _ _ _ _ actions _ _ (is .0) (is .1) _ _ _ goal),
-      prepared-accepted bytes sheet read setWords _ _ (sets-filled bytes sheet read h is-header _ _ _ _ _ actions _ _ (is .0) (is .1) _ _ _ goal),
+      (
+        prepared-accepted bytes sheet read sheetHeads _ _ (heads-filled bytes sheet read h is-header _ _ _ _ _ actions),
+        prepared-accepted bytes sheet read nodeCells _ _ (nodes-filled bytes sheet read h is-header _ _ _ _ _ actions _ _ (is .0) (is .1) _ _ _ goal),
+        prepared-accepted bytes sheet read setWords _ _ (sets-filled bytes sheet read h is-header _ _ _ _ _ actions _ _ (is .0) (is .1) _ _ _ goal),
+      ),
     )
 
 pub fill-spec : {M : Type 1} → statement M

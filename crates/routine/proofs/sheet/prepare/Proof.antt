@@ -25,7 +25,7 @@ unfolding answerOf preparedOf
 returns c =
     let bytes = c .before .before .before .before .before .args .bytes .now in
     let e = sym (ap answerOf (c .before .r .given .1)) ∙ c .before .before .before .read .ensures in
-    (refused-start bytes _ e, refused-memory bytes _ e sheetHeads _, refused-memory bytes _ e nodeCells _, refused-memory bytes _ e setWords _)
+    (refused-start bytes _ e, (refused-memory bytes _ e sheetHeads _, refused-memory bytes _ e nodeCells _, refused-memory bytes _ e setWords _))
 
 returns-2 : tie.Need-returns-2
 returns-2 c = search needs

@@ -24,7 +24,7 @@ returns : tie.Need-returns
 returns c =
     let p = c .before .before .before .before .before in
     let start = p .before .before .before .before .before .before in
-    (walk-unpadded _ _ _ _ _ _ _ _ (c .before .before .before .start .given .1) (p .prepare .ensures .0) (start .pre) _ (c .before .is-padded .ensures) (not-true _ (c .if1 .taken)), p .prepare .ensures .1, p .prepare .ensures .2, p .prepare .ensures .3)
+    (walk-unpadded _ _ _ _ _ _ _ _ (c .before .before .before .start .given .1) (p .prepare .ensures .0) (start .pre) _ (c .before .is-padded .ensures) (not-true _ (c .if1 .taken)), p .prepare .ensures .1)
 
 slice-aggregate-follow : tie.Need-slice-aggregate-follow
 slice-aggregate-follow c =
@@ -38,7 +38,7 @@ follow-requires c κs = search needs
 returns-2 : tie.Need-returns-2
 returns-2 c =
     let p = c .before .before .before in
-    (walk-refused _ _ _ _ _ _ _ _ (c .before .r .given .1) (p .prepare .ensures .0), p .prepare .ensures .1, p .prepare .ensures .2, p .prepare .ensures .3)
+    (walk-refused _ _ _ _ _ _ _ _ (c .before .r .given .1) (p .prepare .ensures .0), p .prepare .ensures .1)
 
 returns-3 : tie.Need-returns-3
 returns-3 c =
@@ -47,8 +47,6 @@ returns-3 c =
       walk-followed _ _ _ _ _ _ _ _ (c .before .before .before .before .before .before .before .before .start .given .1) (p .prepare .ensures .0) (start .pre) _
           (c .before .before .before .before .before .before .is-padded .ensures) (not-false _ (c .before .before .before .before .before .if1 .left)) _ (c .follow .ensures),
       p .prepare .ensures .1,
-      p .prepare .ensures .2,
-      p .prepare .ensures .3,
     )
 
 pub walk-spec : {M : Type 1} → statement M

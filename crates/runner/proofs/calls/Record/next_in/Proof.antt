@@ -14,7 +14,7 @@ tell-requires c κs = search needs
 returns : tie.Need-returns
 returns c =
     let stood = c .before .stand-in .ensures in
-    (λ sized. told-is _ _ _ _ sized _ _ _ (stood .1) (stood .2) (stood .3) _ (stood .0) _ (c .tell .ensures), refl, stood .1, stood .2, stood .3)
+    (λ sized. told-is _ _ _ _ sized _ _ _ (stood .1) _ (stood .0) _ (c .tell .ensures), refl, stood .1)
 
 pub next-in-spec : {M : Type 1} → statement M
 next-in-spec = tie.close (tie.spec stand-in-requires tell-requires returns)

@@ -30,7 +30,7 @@ Lent c = Sized (now (start c .args .heads)) (now (start c .args .nodes)) (now (s
 answers : (c : Added) → Lent c → (j : Judged) → c .add .result ≡ j → reportedOf (reportOf j) ≡ withoutValue (reportOn (start c .args .self) (start c .args .reply))
 answers c sized j e =
     let stood = c .before .before .before .stand-in .ensures in
-    report-is _ _ _ _ sized _ _ _ (stood .1) (stood .2) (stood .3) _ _ (stood .0) j (sym e ∙ c .add .ensures)
+    report-is _ _ _ _ sized _ _ _ (stood .1) _ _ (stood .0) j (sym e ∙ c .add .ensures)
 
 -- Where a reply is kept: the report is accepted, and the arrays have the lengths of their types.
 abbrev Kept : Type 0
@@ -62,7 +62,7 @@ returns : tie.Need-returns
 returns c =
     let a = c .before .before .before .before in
     let stood = a .before .before .before .stand-in .ensures in
-    (λ sized. absurd (omega (arith, c .if1 .taken, has-room _ _ (sheet-sized a) (replies-sized a) (accepts (c .before) sized))), stood .1, stood .2, stood .3)
+    (λ sized. absurd (omega (arith, c .if1 .taken, has-room _ _ (sheet-sized a) (replies-sized a) (accepts (c .before) sized))), stood .1)
 
 element-write-next : tie.Need-element-write-next
 element-write-next c = search needs
@@ -75,14 +75,14 @@ unfolding reportOf reportedOf
 returns-2 c =
     let a = c .before .before .before in
     let stood = a .before .before .before .stand-in .ensures in
-    (λ sized. let e = answers a sized _ (c .before .why .given .1) in (e, after-refused _ _ _ e), stood .1, stood .2, stood .3)
+    (λ sized. let e = answers a sized _ (c .before .why .given .1) in (e, after-refused _ _ _ e), stood .1)
 
 returns-3 : tie.Need-returns-3
 unfolding reportedOf
 returns-3 c =
     let a = c .before .before .before .before in
     let stood = a .before .before .before .stand-in .ensures in
-    (λ sized. let e = accepts (c .before) sized in (e, after-accepted _ _ (sheet-sized a) (replies-sized a) e), stood .1, stood .2, stood .3)
+    (λ sized. let e = accepts (c .before) sized in (e, after-accepted _ _ (sheet-sized a) (replies-sized a) e), stood .1)
 
 pub report-in-spec : {M : Type 1} → statement M
 report-in-spec =

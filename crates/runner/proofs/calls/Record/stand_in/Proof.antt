@@ -5,7 +5,6 @@ use mathlib.Core.Path.{_≡_, sym, ap, _∙_}
 use lib.ListN.{length}
 use lib.Seq.{length-take-le}
 use borrow.Author.Tests.{not-true, not-false}
-use Rattle.routine.specs.Tables.{sheetHeads, nodeCells, setWords}
 use Rattle.format.specs.Format.{mostBytes}
 use Rattle.runner.specs.Records.{isPadded}
 use Rattle.runner.proofs.RecordLaws.{padded-within}
@@ -42,9 +41,7 @@ returns c =
     let start = c .before .before .before .before .before in
     let e = sym (tested (c .before)) ∙ not-true _ (c .if1 .taken) in (
       stands-not (start .args .self) _ _ _ e,
-      unprepared (start .args .self) e sheetHeads _,
-      unprepared (start .args .self) e nodeCells _,
-      unprepared (start .args .self) e setWords _,
+      unprepared (start .args .self) e _ _ _,
     )
 
 array-share-prefix-sheet : tie.Need-array-share-prefix-sheet
@@ -66,9 +63,7 @@ returns-2 c =
     let e = sym (tested (else-arm .before)) ∙ not-false _ (else-arm .if1 .left) in
     let w = c .walk .ensures in (
       stands-walked (start .args .self) _ _ _ e _ (w .0),
-      was-prepared (start .args .self) e sheetHeads _ _ (w .1),
-      was-prepared (start .args .self) e nodeCells _ _ (w .2),
-      was-prepared (start .args .self) e setWords _ _ (w .3),
+      was-prepared (start .args .self) e _ _ _ _ _ _ (w .1),
     )
 
 pub stand-in-spec : {M : Type 1} → statement M
