@@ -7,7 +7,7 @@ use mathlib.Core.Bool.{Bool, true, false}
 use native.Mathlib.Decide.{ℕ-discrete}
 use native.Mathlib.Omega.{arith}
 use lib.Dec.{eqb, ltb}
-use lib.ListN.{length, getD, length-replicate, getD-replicate}
+use lib.ListN.{length, getD, set, length-replicate, getD-replicate}
 use borrow.Author.Tests.{eqb-true, eqb-false, le-ltb, lt-ltb, ltb-true, ltb-false, leb-true}
 use Rattle.lists.specs.Lists.{if_then_else_, below, nonempty}
 use Rattle.lists.proofs.ListLaws.{both-true}
@@ -15,7 +15,7 @@ use Rattle.states.specs.declared.States.{States}
 use Rattle.states.specs.Sets.{words, members}
 use Rattle.semantics.specs.Runs.{Entry, entry}
 use Rattle.routine.specs.Memory.{write, headAt}
-use Rattle.routine.proofs.WriteLaws.{write-length, write-elsewhere, write-back}
+use Rattle.routine.proofs.WriteLaws.{write-length, write-elsewhere, write-back, written-on, four-stores}
 use Rattle.progression.specs.declared.place.Place.{Place}
 use Rattle.progression.specs.Machine.{settled, stepped}
 use Rattle.verifier.specs.declared.memo.Slot.{Slot}
@@ -163,6 +163,18 @@ module _ (budget : ℕ) where
     replies-carry left other l at set action m c n e p =
         answered-carries (From left at) (From other at) (search-carries left other l at) set action c n
         (ap (λ (k : ℕ). eachReply (Visits (From left at) set action) (below k) c) (sym e) ∙ sym (replies-all heads nodes sets budget (From left at) set action m c) ∙ p)
+
+-- Eight stores at places that are counted from the first are a writing: four of them behind four.
+module _ (xs : List ℕ) (i a b c d e f g h : ℕ) where
+  abbrev four : List ℕ
+  four = set (set (set (set xs i a) (i + 1) b) (i + 2) c) (i + 3) d
+
+  pub eight-stores : set (set (set (set four (i + 4) e) (i + 5) f) (i + 6) g) (i + 7) h ≡ write xs i (a ∷ b ∷ c ∷ d ∷ e ∷ f ∷ g ∷ h ∷ [])
+  eight-stores =
+      let e₅ : i + 5 ≡ i + 4 + 1 = omega arith in
+      let e₆ : i + 6 ≡ i + 4 + 2 = omega arith in
+      let e₇ : i + 7 ≡ i + 4 + 3 = omega arith in
+      written-on xs four _ i (i + 4) (a ∷ b ∷ c ∷ d ∷ []) (e ∷ f ∷ g ∷ h ∷ []) (four-stores xs i a b c d) (rw (e₅, e₆, e₇) (four-stores four (i + 4) e f g h)) refl
 
 -- Two slots are the same if their words are.
 slot-by : (a b : Slot) → ((i : ℕ) → i < slotSize → getD (slotWords a) i 0 ≡ getD (slotWords b) i 0) → a ≡ b

@@ -94,7 +94,7 @@ pub(crate) fn recall(
     Recalled::Nothing
 }
 
-// Writes slot j. (The place goes on by one, as in `write`.)
+// Writes slot j.
 pub(crate) fn remember(memo: &mut [u64; MEMO_WORDS], j: usize, slot: Slot)
     requires { ⌜ j < slotMost ⌝ }
     ensures { λ r. ⌜ now (memo .exit) ≡ write (now (memo .entry)) (slotSize * j) (slotWords slot) ⌝ }
@@ -102,18 +102,11 @@ pub(crate) fn remember(memo: &mut [u64; MEMO_WORDS], j: usize, slot: Slot)
     let set = slot.set;
     let i = SLOT_WORDS * j;
     memo[i] = slot.onward;
-    let i = i + 1;
-    memo[i] = slot.action;
-    let i = i + 1;
-    memo[i] = slot.depth;
-    let i = i + 1;
-    memo[i] = slot.behind;
-    let i = i + 1;
-    memo[i] = set.w0;
-    let i = i + 1;
-    memo[i] = set.w1;
-    let i = i + 1;
-    memo[i] = set.w2;
-    let i = i + 1;
-    memo[i] = set.w3;
+    memo[i + 1] = slot.action;
+    memo[i + 2] = slot.depth;
+    memo[i + 3] = slot.behind;
+    memo[i + 4] = set.w0;
+    memo[i + 5] = set.w1;
+    memo[i + 6] = set.w2;
+    memo[i + 7] = set.w3;
 }

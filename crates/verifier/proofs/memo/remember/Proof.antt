@@ -1,8 +1,7 @@
 -- `verifier::memo::remember` meets its contract: the eight stores are the writing of the slot's words. Assumes nothing.
-use mathlib.Core.Path.{refl}
 use Rattle.states.specs.Sets.{words}
-use Rattle.routine.specs.Memory.{write}
 use Rattle.verifier.specs.Memo.{slotWords}
+use Rattle.verifier.proofs.MemoLaws.{eight-stores}
 use borrow.Author.Needs.{needs}
 use Rattle.verifier.proofs.memo.remember.Statement.{statement}
 use Rattle.verifier.proofs.memo.remember.Tie as tie
@@ -16,8 +15,8 @@ mul-memo c = search needs
 element-write-memo : tie.Need-element-write-memo
 element-write-memo c = search needs
 
-add-i : tie.Need-add-i
-add-i c = search needs
+add-memo : tie.Need-add-memo
+add-memo c = search needs
 
 mul-memo-2 : tie.Need-mul-memo-2
 mul-memo-2 c = search needs
@@ -25,8 +24,8 @@ mul-memo-2 c = search needs
 element-write-memo-2 : tie.Need-element-write-memo-2
 element-write-memo-2 c = search needs
 
-add-i-2 : tie.Need-add-i-2
-add-i-2 c = search needs
+add-memo-2 : tie.Need-add-memo-2
+add-memo-2 c = search needs
 
 mul-memo-3 : tie.Need-mul-memo-3
 mul-memo-3 c = search needs
@@ -34,8 +33,8 @@ mul-memo-3 c = search needs
 element-write-memo-3 : tie.Need-element-write-memo-3
 element-write-memo-3 c = search needs
 
-add-i-3 : tie.Need-add-i-3
-add-i-3 c = search needs
+add-memo-3 : tie.Need-add-memo-3
+add-memo-3 c = search needs
 
 mul-memo-4 : tie.Need-mul-memo-4
 mul-memo-4 c = search needs
@@ -43,8 +42,8 @@ mul-memo-4 c = search needs
 element-write-memo-4 : tie.Need-element-write-memo-4
 element-write-memo-4 c = search needs
 
-add-i-4 : tie.Need-add-i-4
-add-i-4 c = search needs
+add-memo-4 : tie.Need-add-memo-4
+add-memo-4 c = search needs
 
 mul-memo-5 : tie.Need-mul-memo-5
 mul-memo-5 c = search needs
@@ -52,8 +51,8 @@ mul-memo-5 c = search needs
 element-write-memo-5 : tie.Need-element-write-memo-5
 element-write-memo-5 c = search needs
 
-add-i-5 : tie.Need-add-i-5
-add-i-5 c = search needs
+add-memo-5 : tie.Need-add-memo-5
+add-memo-5 c = search needs
 
 mul-memo-6 : tie.Need-mul-memo-6
 mul-memo-6 c = search needs
@@ -61,8 +60,8 @@ mul-memo-6 c = search needs
 element-write-memo-6 : tie.Need-element-write-memo-6
 element-write-memo-6 c = search needs
 
-add-i-6 : tie.Need-add-i-6
-add-i-6 c = search needs
+add-memo-6 : tie.Need-add-memo-6
+add-memo-6 c = search needs
 
 mul-memo-7 : tie.Need-mul-memo-7
 mul-memo-7 c = search needs
@@ -70,8 +69,8 @@ mul-memo-7 c = search needs
 element-write-memo-7 : tie.Need-element-write-memo-7
 element-write-memo-7 c = search needs
 
-add-i-7 : tie.Need-add-i-7
-add-i-7 c = search needs
+add-memo-7 : tie.Need-add-memo-7
+add-memo-7 c = search needs
 
 mul-memo-8 : tie.Need-mul-memo-8
 mul-memo-8 c = search needs
@@ -80,8 +79,8 @@ element-write-memo-8 : tie.Need-element-write-memo-8
 element-write-memo-8 c = search needs
 
 returns : tie.Need-returns
-unfolding write slotWords words
-returns c = refl
+unfolding slotWords words
+returns c = eight-stores _ _ _ _ _ _ _ _ _ _
 
 pub remember-spec : {M : Type 1} → statement M
 remember-spec =
@@ -90,25 +89,25 @@ remember-spec =
     mul-i
     mul-memo
     element-write-memo
-    add-i
+    add-memo
     mul-memo-2
     element-write-memo-2
-    add-i-2
+    add-memo-2
     mul-memo-3
     element-write-memo-3
-    add-i-3
+    add-memo-3
     mul-memo-4
     element-write-memo-4
-    add-i-4
+    add-memo-4
     mul-memo-5
     element-write-memo-5
-    add-i-5
+    add-memo-5
     mul-memo-6
     element-write-memo-6
-    add-i-6
+    add-memo-6
     mul-memo-7
     element-write-memo-7
-    add-i-7
+    add-memo-7
     mul-memo-8
     element-write-memo-8
     returns)
