@@ -14,6 +14,7 @@ use prog.AdequacyRun.{startMem}
 use contract.Running.{GhostRules}
 use denote.Laws.{Is}
 use contract.Adequate.{Satisfies, sat-weaken, start-satisfies}
+use Rattle.format.specs.Format.{mostBytes, mostActs}
 use Rattle.runner.specs.declared.calls.Record.{Record}
 use Rattle.runner.proofs.calls.Record as record-type
 use Rattle.runner.proofs.calls.Record.Laws as record-laws
@@ -34,8 +35,8 @@ legal r f = (
   (
     refl,
     (
-      bytes-are 1024 (r .sheet) (f .sheet-long) (f .sheet-bytes),
-      ((refl, f .len-fits), (bytes-are 64 (r .replies) (f .replies-long) (f .replies-bytes), ((refl, f .count-fits), tt))),
+      bytes-are mostBytes (r .sheet) (f .sheet-long) (f .sheet-bytes),
+      ((refl, f .len-fits), (bytes-are mostActs (r .replies) (f .replies-long) (f .replies-bytes), ((refl, f .count-fits), tt))),
     ),
   ),
 )

@@ -33,7 +33,7 @@ use denote.Plain.{UInt, uint-lawful, uint-makes}
 use denote.Ref.{RefT, MutRef, ShrRef}
 use denote.Lend.{lends-ref, lends-shr}
 use denote.Struct.Laws.{makes, owes}
-use Rattle.routine.specs.Memory.{nodeMost}
+use Rattle.routine.specs.Memory.{headMost, nodeMost, setMost}
 use Rattle.states.specs.declared.States.{States}
 use Rattle.states.proofs.SetLaws.{Fitting}
 use Rattle.states.proofs.States as states-type
@@ -223,11 +223,11 @@ module _ {M : Type 1} (𝓤 : URA M) (H : Heap 𝓤) (𝓜 : Model 𝓤 H) (𝓖
       (start-satisfies 𝓤 H 𝓜 [] [] tt tt)
 
   -- `progression::known`.
-  pub knows-any : (sets : List ℕ) (k : ℕ) (set : States) → length sets ≡ 40960 → AllUnder (2 ^ 64) sets → k < 2 ^ 64 → Fitting set → ∥ CanKnown 𝓤 H 𝓜 𝓖 sets k set ∥₁
+  pub knows-any : (sets : List ℕ) (k : ℕ) (set : States) → length sets ≡ 4 * setMost → AllUnder (2 ^ 64) sets → k < 2 ^ 64 → Fitting set → ∥ CanKnown 𝓤 H 𝓜 𝓖 sets k set ∥₁
   knows-any sets k set e h small fits =
       let Os : SProp 𝓤 = Number k ∗ Set set ∗ emp 𝓤 in
       let had : ent 𝓤 (emp 𝓤) Os = and-passed (Number k) (Set set ∗ emp 𝓤) (number-passed 𝓤 H 𝓜 𝓖 w64 k small) (and-passed (Set set) (emp 𝓤) (set-passed set fits) (id⊢ 𝓤 (emp 𝓤))) in
-      ∥∥₁-map (reads-more w64 40960 sets e h (emp 𝓤) Os (emp 𝓤) start (started Os had) 0)
+      ∥∥₁-map (reads-more w64 (4 * setMost) sets e h (emp 𝓤) Os (emp 𝓤) start (started Os had) 0)
       (λ q. (
         (
           (q .2 ∷ [], tt),
@@ -243,13 +243,13 @@ module _ {M : Type 1} (𝓤 : URA M) (H : Heap 𝓤) (𝓜 : Model 𝓤 H) (𝓖
       ))
 
   -- `progression::settle`.
-  pub settles-any : (nodes sets : List ℕ) (set : States) (at : ℕ) → length nodes ≡ 3 * nodeMost → AllUnder (2 ^ 16) nodes → length sets ≡ 40960 → AllUnder (2 ^ 64) sets → Fitting set → at < 2 ^ 64
+  pub settles-any : (nodes sets : List ℕ) (set : States) (at : ℕ) → length nodes ≡ 3 * nodeMost → AllUnder (2 ^ 16) nodes → length sets ≡ 4 * setMost → AllUnder (2 ^ 64) sets → Fitting set → at < 2 ^ 64
       → ∥ CanSettle 𝓤 H 𝓜 𝓖 nodes sets set at ∥₁
   settles-any nodes sets set at e h e′ h′ fits small =
       let Os : SProp 𝓤 = Set set ∗ Number at ∗ emp 𝓤 in
       let had : ent 𝓤 (emp 𝓤) Os = and-passed (Set set) (Number at ∗ emp 𝓤) (set-passed set fits) (and-passed (Number at) (emp 𝓤) (number-passed 𝓤 H 𝓜 𝓖 w64 at small) (id⊢ 𝓤 (emp 𝓤))) in
-      ∥∥₁-elim (reads-more w64 40960 sets e′ h′ (emp 𝓤) Os (emp 𝓤) start (started Os had) 1) ∥∥₁-prop (λ p.
-      ∥∥₁-map (reads-more w16 (3 * nodeMost) nodes e h (live (p .2) ∗ emp 𝓤) (Reading 1 w64 40960 sets (p .1) (p .2) (p .3) ∗ Os) (emp 𝓤) (p .0) (p .4) 0)
+      ∥∥₁-elim (reads-more w64 (4 * setMost) sets e′ h′ (emp 𝓤) Os (emp 𝓤) start (started Os had) 1) ∥∥₁-prop (λ p.
+      ∥∥₁-map (reads-more w16 (3 * nodeMost) nodes e h (live (p .2) ∗ emp 𝓤) (Reading 1 w64 (4 * setMost) sets (p .1) (p .2) (p .3) ∗ Os) (emp 𝓤) (p .0) (p .4) 0)
       (λ q. (
         (
           (q .2 ∷ [], (p .2 ∷ [], tt)),
@@ -266,15 +266,15 @@ module _ {M : Type 1} (𝓤 : URA M) (H : Heap 𝓤) (𝓜 : Model 𝓤 H) (𝓖
       )))
 
   -- `progression::step`.
-  pub steps-any : (heads sets : List ℕ) (set : States) (action reply : ℕ) → length heads ≡ 93 → AllUnder (2 ^ 16) heads → length sets ≡ 40960 → AllUnder (2 ^ 64) sets → Fitting set
+  pub steps-any : (heads sets : List ℕ) (set : States) (action reply : ℕ) → length heads ≡ 3 * headMost → AllUnder (2 ^ 16) heads → length sets ≡ 4 * setMost → AllUnder (2 ^ 64) sets → Fitting set
       → action < 2 ^ 64 → reply < 2 ^ 64 → ∥ CanStep 𝓤 H 𝓜 𝓖 heads sets set action reply ∥₁
   steps-any heads sets set action reply e h e′ h′ fits small small′ =
       let Os : SProp 𝓤 = Set set ∗ Number action ∗ Number reply ∗ emp 𝓤 in
       let numbers : ent 𝓤 (emp 𝓤) (Number action ∗ Number reply ∗ emp 𝓤) =
       and-passed (Number action) (Number reply ∗ emp 𝓤) (number-passed 𝓤 H 𝓜 𝓖 w64 action small) (and-passed (Number reply) (emp 𝓤) (number-passed 𝓤 H 𝓜 𝓖 w64 reply small′) (id⊢ 𝓤 (emp 𝓤))) in
       let had : ent 𝓤 (emp 𝓤) Os = and-passed (Set set) (Number action ∗ Number reply ∗ emp 𝓤) (set-passed set fits) numbers in
-      ∥∥₁-elim (reads-more w64 40960 sets e′ h′ (emp 𝓤) Os (emp 𝓤) start (started Os had) 1) ∥∥₁-prop (λ p.
-      ∥∥₁-map (reads-more w16 93 heads e h (live (p .2) ∗ emp 𝓤) (Reading 1 w64 40960 sets (p .1) (p .2) (p .3) ∗ Os) (emp 𝓤) (p .0) (p .4) 0)
+      ∥∥₁-elim (reads-more w64 (4 * setMost) sets e′ h′ (emp 𝓤) Os (emp 𝓤) start (started Os had) 1) ∥∥₁-prop (λ p.
+      ∥∥₁-map (reads-more w16 (3 * headMost) heads e h (live (p .2) ∗ emp 𝓤) (Reading 1 w64 (4 * setMost) sets (p .1) (p .2) (p .3) ∗ Os) (emp 𝓤) (p .0) (p .4) 0)
       (λ q. (
         (
           (q .2 ∷ [], (p .2 ∷ [], tt)),
@@ -306,19 +306,19 @@ module _ {M : Type 1} (𝓤 : URA M) (H : Heap 𝓤) (𝓜 : Model 𝓤 H) (𝓖
       (monoR 𝓤 (L ∗ O) (via 𝓤 (Ls ∗ Os) (snd∗ 𝓤 A (Ls ∗ Os)) (via 𝓤 (emp 𝓤 ∗ Ls ∗ Os) (emp∗ 𝓤 (Ls ∗ Os)) (comm∗ 𝓤 (emp 𝓤) (Ls ∗ Os))))) (one-more L O Ls Os (emp 𝓤))
 
   -- `routine::prepare`.
-  pub prepares-any : (sheet heads nodes sets : List ℕ) → AllBytes sheet → length sheet < 2 ^ 63 → length heads ≡ 93 → AllUnder (2 ^ 16) heads → length nodes ≡ 3 * nodeMost → AllUnder (2 ^ 16) nodes
-      → length sets ≡ 40960 → AllUnder (2 ^ 64) sets → ∥ CanPrepare 𝓤 H 𝓜 𝓖 sheet heads nodes sets ∥₁
+  pub prepares-any : (sheet heads nodes sets : List ℕ) → AllBytes sheet → length sheet < 2 ^ 63 → length heads ≡ 3 * headMost → AllUnder (2 ^ 16) heads → length nodes ≡ 3 * nodeMost → AllUnder (2 ^ 16) nodes
+      → length sets ≡ 4 * setMost → AllUnder (2 ^ 64) sets → ∥ CanPrepare 𝓤 H 𝓜 𝓖 sheet heads nodes sets ∥₁
   prepares-any sheet heads nodes sets bytes short e h e′ h′ e″ h″ =
       let X : SProp 𝓤 = Holding 𝓤 H 𝓜 𝓖 0 0 sheet in
-      ∥∥₁-elim (writes-more w64 40960 sets e″ h″ (emp 𝓤) (emp 𝓤) X (startMem sheet []) (sheet-started sheet bytes) 3) ∥∥₁-prop (λ p.
+      ∥∥₁-elim (writes-more w64 (4 * setMost) sets e″ h″ (emp 𝓤) (emp 𝓤) X (startMem sheet []) (sheet-started sheet bytes) 3) ∥∥₁-prop (λ p.
       let L3 : SProp 𝓤 = live (p .2) ∗ emp 𝓤 in
-      let O3 : SProp 𝓤 = Writing 3 w64 40960 sets (p .1) (p .2) (p .3) ∗ emp 𝓤 in
+      let O3 : SProp 𝓤 = Writing 3 w64 (4 * setMost) sets (p .1) (p .2) (p .3) ∗ emp 𝓤 in
       ∥∥₁-elim (writes-more w16 (3 * nodeMost) nodes e′ h′ L3 O3 X (p .0) (p .4) 2) ∥∥₁-prop (λ q.
       let L2 : SProp 𝓤 = live (q .2) ∗ L3 in
       let O2 : SProp 𝓤 = Writing 2 w16 (3 * nodeMost) nodes (q .1) (q .2) (q .3) ∗ O3 in
-      ∥∥₁-elim (writes-more w16 93 heads e h L2 O2 X (q .0) (q .4) 1) ∥∥₁-prop (λ r.
+      ∥∥₁-elim (writes-more w16 (3 * headMost) heads e h L2 O2 X (q .0) (q .4) 1) ∥∥₁-prop (λ r.
       let L1 : SProp 𝓤 = live (r .2) ∗ L2 in
-      let O1 : SProp 𝓤 = Writing 1 w16 93 heads (r .1) (r .2) (r .3) ∗ O2 in
+      let O1 : SProp 𝓤 = Writing 1 w16 (3 * headMost) heads (r .1) (r .2) (r .3) ∗ O2 in
       ∥∥₁-map (reads-lent 𝓤 H 𝓜 𝓖 0 sheet 0 0 (room-under (length sheet) short) (r .0) (L1 ∗ O1) (sat-weaken 𝓤 H 𝓜 (r .0) (comm∗ 𝓤 (L1 ∗ O1) X) (r .4)))
       (λ t. (
         (

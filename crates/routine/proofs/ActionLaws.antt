@@ -22,7 +22,7 @@ use Rattle.reader.specs.declared.formula.View.{View}
 use Rattle.reader.specs.declared.nodes.ActionKind.{ActionKind}
 use Rattle.reader.specs.declared.nodes.ReplyTotal.{ReplyTotal}
 use Rattle.routine.specs.declared.actions.Laid.{Laid}
-use Rattle.routine.specs.Memory.{write}
+use Rattle.routine.specs.Memory.{write, setMost}
 use Rattle.routine.specs.Tables.{rows, actionSets, headCells}
 use Rattle.routine.specs.Filling.{Replies, ActionRoom, ActionWritten}
 use Rattle.routine.proofs.WriteLaws.{written-on, words-four, spread-step, spread-append, spread-length}
@@ -217,8 +217,8 @@ module _ (space : States) where
       ap length (change-sets f) ∙ length-append (rows (member space) (change f)) (setOf (λ s. true) ∷ []) ∙ ap (λ (j : ℕ). j + 1) (rows-count space f)
 
   -- The parts of an action that has room stand behind its first node, and have room.
-  module _ (bytes : List ℕ) (n p k : ℕ) (r : ActionKind) (short : length bytes ≤ 1024) (e : kindRead r ≡ ofSheet kind bytes p) (here : ActionRoom bytes n space p k) where
-    pub change-room : {end : ℕ} → r ≡ ActionKind.Change end → k + 257 ≤ 10240
+  module _ (bytes : List ℕ) (n p k : ℕ) (r : ActionKind) (short : length bytes ≤ mostBytes) (e : kindRead r ≡ ofSheet kind bytes p) (here : ActionRoom bytes n space p k) where
+    pub change-room : {end : ℕ} → r ≡ ActionKind.Change end → k + 257 ≤ setMost
     change-room g =
         let x = change-found bytes n p r short e g (here .action) (here .next) (here .stands) in
         let l : length (actionSets (member space) (here .action)) ≡ 257 = ap (λ (y : Action). length (actionSets (member space) y)) (x .1) ∙ change-count (x .0) in
