@@ -181,9 +181,17 @@ module _ (sheet : Sheet) (heads nodes sets : List ℕ) where
       abbrev Settling : List Program → Type 0
       Settling qs = Settles nodes sets end-at count set i qs
 
+      -- The set's states are those that the method lists, which are those still possible after the history, each once and in order: the sets of the code are those of the
+      -- definition by runs.
+      method-members : members set ≡ possible sheet h
+      method-members = ap members (reached .set-is) ∙ members-possible sheet few h
+
+      pub reached-states : members set ≡ possibleStates sheet h
+      reached-states = method-members ∙ method-states sheet h
+
       -- What holds of the set is what holds after the history.
       pub same-truth : (f : Epistemic) → satisfies (members set) f ≡ holdsAfter sheet h f
-      same-truth f = ap (λ (ss : List ℕ). satisfies ss f) (ap members (reached .set-is) ∙ members-possible sheet few h) ∙ sym (holds-possible sheet h f)
+      same-truth f = ap (λ (ss : List ℕ). satisfies ss f) method-members ∙ sym (holds-possible sheet h f)
 
       at-action : (a : ℕ) (rest : Program) (ps : List Program) → Settling (act a rest ∷ ps) → leftAfter (routine sheet) (replies h) ≡ policies sheet (act a rest ∷ ps) h → AtAction h i set
       unfolding policies policy
@@ -244,13 +252,6 @@ module _ (sheet : Sheet) (heads nodes sets : List ℕ) where
       reached-told =
           ⊎-elim (λ (x : AtAction h i set). ap placeOf (x .settles) ∙ sym (told-left sheet h (reached .follows) (perform (x .action) (x .after)) (x .next)))
           (λ (x : AtEnd h i set). ap placeOf (x .settles) ∙ sym (told-left sheet h (reached .follows) done (x .nothing))) reached-place
-
-      -- The set's states are those still possible after the history, each once and in order: the sets of the code are those of the definition by runs.
-      method-members : members set ≡ possible sheet h
-      method-members = ap members (reached .set-is) ∙ members-possible sheet few h
-
-      pub reached-states : members set ≡ possibleStates sheet h
-      reached-states = method-members ∙ method-states sheet h
 
       -- Some run has the history exactly if some state is possible.
       pub reached-occurs : occurs sheet h ≡ nonempty (members set)

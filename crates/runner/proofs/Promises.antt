@@ -8,7 +8,7 @@ use denote.Ref.{now}
 use denote.Triple.Entry.{Args}
 use denote.Triple.Clauses.{Lasts, atExit}
 use Rattle.format.specs.Syntax.{Sheet}
-use Rattle.format.specs.Format.{Answer, gives, reading}
+use Rattle.format.specs.Format.{gives, reading}
 use Rattle.reader.specs.Answers.{withoutValue}
 use Rattle.routine.specs.Memory.{Sized}
 use Rattle.routine.specs.Tables.{TablesAfter}

@@ -60,9 +60,8 @@ areReplies sheet replies count = isPadded mostActs replies count && areOfRun she
 
 -- What is given and passes a test; else 31.
 unfoldable pub passing : {A : Type 0} → (A → Bool) → Answer A → Answer A
-unfolding if_then_else_ rejectionNumber
-passing test (gives a) = if test a then gives a else badRecord
-passing test (refused k) = badRecord
+unfolding givenOr if_then_else_ rejectionNumber
+passing test answer = givenOr badRecord (λ a. if test a then gives a else badRecord) answer
 
 -- The sheet of a record, or 31.
 unfoldable pub heldBy : Record → Answer Sheet
