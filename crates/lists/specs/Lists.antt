@@ -1,9 +1,10 @@
 -- Choices, lists of numbers, tests over lists, and order. Nothing here is of document 01; its definitions are written with these.
-use Prim.Native.Nat.{ℕ, zero, suc, _<_}
+use Prim.Native.Nat.{ℕ, zero, suc, _+_, _<_}
 use mathlib.Core.Path.{_≡_}
 use mathlib.Core.Logic.{_⊎_}
 use mathlib.Core.List.{List, [], _∷_, List·Memᴰ}
 use mathlib.Core.Bool.{Bool, true, false, _&&_, _||_}
+use lib.ListN.{set}
 
 -- The choice between two values by a test.
 infix 5 if_then_else_
@@ -58,3 +59,8 @@ Before [] [] = ⊥
 Before [] (y ∷ ys) = Unit {0}
 Before (x ∷ xs) [] = ⊥
 Before (x ∷ xs) (y ∷ ys) = (x < y) ⊎ ((x ≡ y) × Before xs ys)
+
+-- Numbers written into a memory from place i on, one after the other; the others keep their values.
+unfoldable pub write : (memory : List ℕ) (i : ℕ) (numbers : List ℕ) → List ℕ
+write memory i [] = memory
+write memory i (x ∷ xs) = write (set memory i x) (i + 1) xs

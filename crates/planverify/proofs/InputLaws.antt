@@ -13,9 +13,8 @@ use mir.Val.{SFits, Fits, ofZ, toZ}
 use mir.ValLaws.{ofZ-fits, toZ-ofZ}
 use borrow.Author.Tests.{lt-ltb, le-ltb}
 use Rattle.libc.specs.Io.{Moved}
-use Rattle.lists.specs.Lists.{if_then_else_}
+use Rattle.lists.specs.Lists.{if_then_else_, write}
 use Rattle.semantics.specs.Printing.{printed}
-use Rattle.routine.specs.Memory.{write}
 use Rattle.planverify.specs.declared.Input.{Input}
 use Rattle.planverify.specs.declared.Next.{Next}
 use Rattle.planverify.specs.Input.{afterRead, Within, linesFor}

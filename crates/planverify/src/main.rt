@@ -8,7 +8,7 @@ ghost use mathlib.Core.Path.{_≡_};
 ghost use Prim.Native.Nat.{_≤_, _<_, _-_};
 ghost use lib.ListN.{length};
 ghost use Rattle.libc.specs.Io.{Moved};
-ghost use Rattle.routine.specs.Memory.{write};
+ghost use Rattle.lists.specs.Lists.{write};
 ghost use Rattle.format.specs.Format.{mostBytes};
 ghost use Rattle.semantics.specs.Printing.{mostLines};
 ghost use Rattle.planverify.specs.Input.{afterRead, Within, linesFor};

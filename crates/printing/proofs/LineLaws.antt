@@ -9,14 +9,13 @@ use lib.Dec.{ltb}
 use borrow.Author.Tests.{ltb-true, ltb-false, lt-ltb, le-ltb}
 use lib.ListN.{length, getD, take, drop, set, length-append, drop-of-length-le}
 use lib.Seq.{take-suc, drop-cons, length-take-le}
-use Rattle.lists.specs.Lists.{if_then_else_}
+use Rattle.lists.specs.Lists.{if_then_else_, write}
 use Rattle.reader.specs.declared.refusal.Refusal.{Refusal}
 use Rattle.format.specs.Format.{gives}
 use Rattle.reader.specs.Answers.{numberOf, numberFor}
 use Rattle.semantics.specs.Verdict.{invalid}
 use Rattle.semantics.specs.Printing.{space, lineFeed, digit, decimal, hexadecimal, invalidWord, refusedWord, endLine, printedFor, mostLines}
 use Rattle.semantics.proofs.PrintingLaws.{decimal-small, decimal-more}
-use Rattle.routine.specs.Memory.{write}
 use Rattle.routine.proofs.WriteLaws.{written-on}
 use Rattle.verifier.specs.declared.verdict.Verdict.{Verdict}
 use Rattle.verifier.specs.Answers.{answerOf}

@@ -9,7 +9,7 @@ use Rattle.format.specs.Format.{Answer, gives, refused, onAccepted, reading}
 use Rattle.semantics.specs.Verdict.{Verdict as Meant, valid, invalid, stopped, outcome, outcomeOf, verdictOf, shownBy, written, Verified, LongEnough, verified}
 use Rattle.semantics.specs.Printing.{printedFor, printed}
 use Rattle.semantics.proofs.MemoryLaws.{verified-accepted, verified-refused, begins, memory-length, invalid-short}
-use Rattle.routine.specs.Memory.{write}
+use Rattle.lists.specs.Lists.{write}
 use Rattle.verifier.specs.declared.verdict.Verdict.{Verdict}
 use Rattle.verifier.specs.Answers.{answerOf}
 use Rattle.printing.specs.Lines.{Put, shownIn, Printable}

@@ -6,7 +6,7 @@ use lib.ListN.{length, take}
 use Rattle.format.specs.Format.{Answer, gives, refused, mostActs}
 use Rattle.semantics.specs.Verdict.{Verdict as Meant, valid, invalid, stopped}
 use Rattle.semantics.specs.Printing.{decimal, behindSpace}
-use Rattle.routine.specs.Memory.{write}
+use Rattle.lists.specs.Lists.{write}
 use Rattle.verifier.specs.declared.verdict.Verdict.{Verdict}
 
 -- Bytes are written from a place on, and `behind` is the place behind them.

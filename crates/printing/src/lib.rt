@@ -10,7 +10,7 @@ ghost use lib.ListN.{length, take};
 ghost use Rattle.semantics.specs.Printing.{digit as digitOf, decimal, hexadecimal, endLine, printedFor, mostLines, printed};
 ghost use Rattle.format.specs.Format.{gives, mostActs};
 ghost use Rattle.semantics.specs.Verdict.{invalid, longestTrace};
-ghost use Rattle.routine.specs.Memory.{write};
+ghost use Rattle.lists.specs.Lists.{write};
 ghost use Rattle.verifier.specs.Answers.{answerOf};
 ghost use Rattle.printing.specs.Lines.{Put, behindWord, shownIn, Printable};
 

@@ -6,7 +6,7 @@ use mathlib.Core.Bool.{Bool, true, false, _&&_}
 use native.Mathlib.Omega.{arith}
 use native.Mathlib.Numerals.{add-one}
 use lib.ListN.{length, getD, length-append, length-map}
-use Rattle.lists.specs.Lists.{upFrom}
+use Rattle.lists.specs.Lists.{upFrom, write}
 use Rattle.lists.proofs.ListLaws.{made-length}
 use Rattle.states.specs.declared.States.{States}
 use Rattle.states.specs.Sets.{words, member, setOf}
@@ -22,7 +22,7 @@ use Rattle.reader.specs.declared.formula.View.{View}
 use Rattle.reader.specs.declared.nodes.ActionKind.{ActionKind}
 use Rattle.reader.specs.declared.nodes.ReplyTotal.{ReplyTotal}
 use Rattle.routine.specs.declared.actions.Laid.{Laid}
-use Rattle.routine.specs.Memory.{write, setMost}
+use Rattle.routine.specs.Memory.{setMost}
 use Rattle.routine.specs.Tables.{rows, actionSets, headCells}
 use Rattle.routine.specs.Filling.{Replies, ActionRoom, ActionWritten}
 use Rattle.routine.proofs.WriteLaws.{written-on, words-four, spread-step, spread-append, spread-length}

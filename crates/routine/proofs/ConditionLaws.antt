@@ -13,7 +13,8 @@ use Rattle.format.proofs.FormulaLaws.{objective-levels}
 use Rattle.routine.specs.declared.memory.Node.{Node}
 use Rattle.routine.specs.declared.conditions.Filled.{Filled}
 use Rattle.states.specs.Sets.{words}
-use Rattle.routine.specs.Memory.{write, cells, nodeMost, setMost}
+use Rattle.lists.specs.Lists.{write}
+use Rattle.routine.specs.Memory.{cells, nodeMost, setMost}
 use Rattle.routine.specs.Tables.{atoms, atomSets, formulaSize, formulaNodes}
 use Rattle.routine.specs.Filling.{pair, AtomFills, FormulaRoom, FormulaFills, PartsRoom, FormulaWritten, behindFormula}
 use Rattle.routine.proofs.SizeLaws.{formula-length, atom-sets-length, some-node, some-atom}

@@ -6,7 +6,7 @@ use mathlib.Core.List.{List, [], _∷_, _++_, map, flatMap, List·Memᴰ, List·
 use mathlib.Core.Bool.{Bool, true, false, _&&_}
 use native.Mathlib.Omega.{arith}
 use lib.ListN.{length, set, length-append}
-use Rattle.lists.specs.Lists.{below}
+use Rattle.lists.specs.Lists.{below, write}
 use Rattle.lists.proofs.ListLaws.{flat-mem}
 use Rattle.states.specs.declared.States.{States}
 use Rattle.states.specs.Sets.{words, setOf}
@@ -17,7 +17,7 @@ use Rattle.format.specs.Format.{Answer, gives, refused, mostActs, reading}
 use Rattle.format.proofs.FormatLaws.{NumbersBelow}
 use Rattle.format.proofs.SheetLaws.{FewReplies, accepted-shape}
 use Rattle.routine.specs.declared.memory.Node.{Node}
-use Rattle.routine.specs.Memory.{write, flag, cells, Small, headMost, nodeMost, setMost}
+use Rattle.routine.specs.Memory.{flag, cells, Small, headMost, nodeMost, setMost}
 use Rattle.routine.specs.Tables.{rows, replyTables, actionSets, headCells, atoms, atomSets, formulaSize, formulaNodes, size, programAtoms, programSets, programNodes, sheetActionSets, sheetSets, sheetNodes, sheetHeads, sheetStart, setWords, nodeCells, prepared}
 use Rattle.routine.proofs.WriteLaws.{write-length}
 use Rattle.routine.proofs.RoomLaws.{action-length, accepted-room}

@@ -9,6 +9,7 @@ use lib.ListN.{getD, replicate, length-replicate}
 use borrow.Author.Tests.{lt-ltb, le-ltb, ne-eqb}
 use Rattle.routine.specs.declared.memory.Node.{Node}
 use Rattle.routine.specs.Memory.{Small, headMost, nodeMost, setMost, setAt, nodeOf, Sized}
+use Rattle.states.specs.Sets.{wordsAt}
 
 -- Arrays that were made for the tables have the lengths of their types.
 pub fresh-sized : Sized (replicate (3 * headMost) 0) (replicate (3 * nodeMost) 0) (replicate (4 * setMost) 0)
@@ -16,7 +17,7 @@ fresh-sized = (length-replicate {A = ℕ} (3 * headMost) 0, length-replicate {A 
 
 -- A set of a memory.
 pub set-in : (sets : List ℕ) (k : ℕ) → k < setMost
-    → record { w0 = getD sets (4 * k) 0; w1 = getD sets (4 * k + 1) 0; w2 = getD sets (4 * k + 2) 0; w3 = getD sets (4 * k + 3) 0 } ≡ setAt sets k
+    → wordsAt sets (4 * k) ≡ setAt sets k
 unfolding setAt
 set-in sets k h = rw (lt-ltb k setMost h)
 

@@ -24,7 +24,8 @@ use Rattle.reader.specs.declared.layout.ParsedHeader.{ParsedHeader}
 use Rattle.reader.specs.declared.formula.View.{View}
 use Rattle.format.proofs.SheetLaws.{accepted-shape}
 use Rattle.routine.specs.declared.actions.Laid.{Laid}
-use Rattle.routine.specs.Memory.{write, cells}
+use Rattle.lists.specs.Lists.{write}
+use Rattle.routine.specs.Memory.{cells}
 use Rattle.routine.specs.Tables.{rows, replyTables, actionSets, headCells, atomSets, programSets, sheetActionSets, sheetSets, sheetNodes, sheetHeads, sheetStart, setWords, nodeCells, prepared, startOf, routineNodes}
 use Rattle.routine.specs.Filling.{ActionsRoom, ActionsFill, RoutineRoom, RoutineFills, Acceptable}
 use Rattle.routine.proofs.RoomLaws.{Room, accepted-room}

@@ -13,7 +13,8 @@ use Rattle.format.proofs.FormatLaws.{node-numbered}
 use Rattle.routine.specs.declared.memory.Node.{Node}
 use Rattle.routine.specs.declared.conditions.Filled.{Filled}
 use Rattle.states.specs.Sets.{words}
-use Rattle.routine.specs.Memory.{write, cells, Small, nodeMost}
+use Rattle.lists.specs.Lists.{write}
+use Rattle.routine.specs.Memory.{cells, Small, nodeMost}
 use Rattle.routine.specs.Tables.{atoms, atomSets, formulaSize, formulaNodes, size, programAtoms, programSets, programNodes, routineNodes, goalNode}
 use Rattle.routine.specs.Filling.{FormulaRoom, FormulaFills, FormulaWritten, behindFormula, ProgramRoom, ProgramFills, ProgramWritten, behindProgram, RoutineRoom}
 use Rattle.routine.proofs.WriteLaws.{spread-one, spread-on, node-before, words-four, cells-three}

@@ -7,7 +7,7 @@ use native.Mathlib.Omega.{arith}
 use native.Mathlib.Nat.{mul-zero, mul-suc}
 use lib.ListN.{length, getD, take, length-append, List·getD-append}
 use borrow.Author.Tests.{lt-ltb}
-use Rattle.lists.specs.Lists.{if_then_else_}
+use Rattle.lists.specs.Lists.{if_then_else_, write}
 use Rattle.lists.proofs.ListLaws.{append-past, made-get}
 use Rattle.states.specs.declared.States.{States}
 use Rattle.states.specs.Sets.{words, setOf}
@@ -20,7 +20,7 @@ use Rattle.format.proofs.SheetLaws.{accepted-shape}
 use Rattle.routine.specs.declared.memory.Node.{Node}
 use Rattle.routine.specs.declared.memory.Head.{Head}
 use Rattle.routine.specs.declared.sheet.Prepared.{Prepared}
-use Rattle.routine.specs.Memory.{write, cells, headMost, nodeMost, setMost, Sized, setAt, nodeOf, nodeAt, headAt}
+use Rattle.routine.specs.Memory.{cells, headMost, nodeMost, setMost, Sized, setAt, nodeOf, nodeAt, headAt}
 use Rattle.routine.specs.Tables.{rows, replyTables, actionSets, atomSets, programSets, headCells, sheetActionSets, sheetSets, sheetNodes, sheetHeads, setWords, nodeCells, sheetStart, preparedOf, startOf, prepared, TablesAfter}
 use Rattle.routine.proofs.WriteLaws.{write-back, spread-length, words-four, cells-three}
 use Rattle.routine.proofs.RoomLaws.{action-length, heads-length, sheet-sets-length, sheet-nodes-length, accepted-room}

@@ -9,7 +9,8 @@ use lib.Seq.{set-comm, getD-set-same, getD-set-other}
 use Rattle.states.specs.declared.States.{States}
 use Rattle.routine.specs.declared.memory.Node.{Node}
 use Rattle.states.specs.Sets.{words}
-use Rattle.routine.specs.Memory.{write, cells}
+use Rattle.lists.specs.Lists.{write}
+use Rattle.routine.specs.Memory.{cells}
 
 -- Writing keeps the length.
 pub write-length : (xs : List ℕ) (i : ℕ) (ys : List ℕ) → length (write xs i ys) ≡ length xs

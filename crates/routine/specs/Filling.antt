@@ -14,7 +14,8 @@ use Rattle.format.specs.Standing.{ObjectiveAt, RepliesAt, ActionAt, ActionsAt, 
 use Rattle.routine.specs.declared.memory.Node.{Node}
 use Rattle.routine.specs.declared.actions.Laid.{Laid}
 use Rattle.routine.specs.declared.conditions.Filled.{Filled}
-use Rattle.routine.specs.Memory.{write, cells, headMost, nodeMost, setMost}
+use Rattle.lists.specs.Lists.{write}
+use Rattle.routine.specs.Memory.{cells, headMost, nodeMost, setMost}
 use Rattle.routine.specs.Tables.{rows, actionSets, headCells, atoms, atomSets, formulaSize, formulaNodes, size, programAtoms, programSets, programNodes, routineNodes}
 
 -- The head of an action is written as that of action a and its sets from set k on, and r is where they end.

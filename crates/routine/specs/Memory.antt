@@ -4,17 +4,12 @@ use mathlib.Core.Path.{_≡_}
 use mathlib.Core.List.{List, [], _∷_}
 use mathlib.Core.Bool.{Bool, true, false}
 use lib.Dec.{ltb, eqb}
-use lib.ListN.{length, getD, set}
+use lib.ListN.{length, getD}
 use Rattle.lists.specs.Lists.{if_then_else_}
 use Rattle.states.specs.declared.States.{States}
-use Rattle.states.specs.Sets.{setOf}
+use Rattle.states.specs.Sets.{wordsAt, setOf}
 use Rattle.routine.specs.declared.memory.Node.{Node}
 use Rattle.routine.specs.declared.memory.Head.{Head}
-
--- Numbers written into a memory from place i on, one after the other; the others keep their values.
-unfoldable pub write : (memory : List ℕ) (i : ℕ) (numbers : List ℕ) → List ℕ
-write memory i [] = memory
-write memory i (x ∷ xs) = write (set memory i x) (i + 1) xs
 
 -- A truth value as a number.
 unfoldable pub flag : Bool → ℕ
@@ -56,9 +51,9 @@ Sized heads nodes sets = (length heads ≡ 3 * headMost) × (length nodes ≡ 3 
 
 -- Set k of a memory; past the last the empty one.
 unfoldable pub setAt : (sets : List ℕ) (k : ℕ) → States
-unfolding if_then_else_ setOf
+unfolding if_then_else_ wordsAt setOf
 setAt sets k =
-    if ltb k setMost then record { w0 = getD sets (4 * k) 0; w1 = getD sets (4 * k + 1) 0; w2 = getD sets (4 * k + 2) 0; w3 = getD sets (4 * k + 3) 0 }
+    if ltb k setMost then wordsAt sets (4 * k)
     else setOf (λ s. false)
 
 -- The node that three numbers are. A flag other than 1 counts as 0.

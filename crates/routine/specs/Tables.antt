@@ -5,7 +5,7 @@ use mathlib.Core.List.{List, [], _∷_, _++_, map, flatMap}
 use mathlib.Core.Bool.{Bool, true, false, _&&_}
 use lib.Dec.{ltb}
 use lib.ListN.{length, take}
-use Rattle.lists.specs.Lists.{upFrom, below}
+use Rattle.lists.specs.Lists.{upFrom, below, write}
 use Rattle.states.specs.declared.States.{States}
 use Rattle.states.specs.Sets.{words, setOf}
 use Rattle.format.specs.Syntax.{top, fact, negation, Epistemic, known, not-known, all-of, any-of, Program, end, act, branch, Action, change, probe, actionNodes, replyCount, Sheet}
@@ -14,7 +14,7 @@ use Rattle.format.specs.Format.{Answer, gives, refused, onAccepted, givenOr}
 use Rattle.reader.specs.Answers.{numberOf}
 use Rattle.routine.specs.declared.memory.Node.{Node}
 use Rattle.routine.specs.declared.sheet.Prepared.{Prepared}
-use Rattle.routine.specs.Memory.{write, cells}
+use Rattle.routine.specs.Memory.{cells}
 
 -- The table of each reply: the states after the effect in which it is true. ("after a probe, the same state, with a reply true in it"; 2013: the states where the reply holds.)
 unfoldable pub replyTables : Action → List States

@@ -11,7 +11,8 @@ ghost use mathlib.Core.Path.{_≡_};
 ghost use mathlib.Core.List.{[], _∷_};
 ghost use Prim.Native.Nat.{_*_, _<_};
 ghost use Rattle.states.specs.Sets.{words};
-ghost use Rattle.routine.specs.Memory.{write, flag as flagOf, cells, Small, headMost, nodeMost, setMost, setAt, nodeOf, nodeAt, headAt};
+ghost use Rattle.lists.specs.Lists.{write};
+ghost use Rattle.routine.specs.Memory.{flag as flagOf, cells, Small, headMost, nodeMost, setMost, setAt, nodeOf, nodeAt, headAt};
 
 // A node. Of a program: an action by its number, and the node's own number among the action nodes in reading order; a
 // branch, whose condition stands behind it, and how many nodes are skipped if that holds and if it doesn't; a jump over so
@@ -42,12 +43,7 @@ pub fn set_at(sets: &[u64; SET_WORDS], k: usize) -> States
     if SETS <= k {
         return States::empty();
     }
-    States {
-        w0: sets[4 * k],
-        w1: sets[4 * k + 1],
-        w2: sets[4 * k + 2],
-        w3: sets[4 * k + 3],
-    }
+    States::at(sets, 4 * k)
 }
 
 // A number of the memory as an index.
@@ -110,10 +106,7 @@ pub(crate) fn put_set(sets: &mut [u64; SET_WORDS], k: usize, set: States)
     requires { ⌜ k < setMost ⌝ }
     ensures { λ r. ⌜ now (sets .exit) ≡ write (now (sets .entry)) (4 * k) (words set) ⌝ }
 {
-    sets[4 * k] = set.w0;
-    sets[4 * k + 1] = set.w1;
-    sets[4 * k + 2] = set.w2;
-    sets[4 * k + 3] = set.w3;
+    set.put(sets, 4 * k);
 }
 
 // Writes the three numbers of node i.

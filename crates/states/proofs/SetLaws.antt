@@ -2,17 +2,18 @@
 use Prim.Native.Nat.{ℕ, zero, suc, _+_, _-_, _*_, _/_, _%_, _^_, _≤_, _<_}
 use mathlib.Core.Path.{_≡_, refl, subst, sym, ap, ap₂, _∙_}
 use mathlib.Core.Bool.{Bool, true, false, not, _&&_}
-use mathlib.Core.List.{[], _∷_, List·Memᴰ}
+use mathlib.Core.List.{List, [], _∷_, List·Memᴰ}
 use native.Mathlib.Omega.{arith}
 use native.Mathlib.Numerals.{add-one}
 use lib.Dec.{eqb}
-use lib.ListN.{List·getD-eq-default}
+use lib.ListN.{length, getD, set, List·getD-eq-default}
+use lib.Seq.{set-out}
 use lib.Bits.{bitOr}
 use borrow.Author.Tests.{eq-eqb, ne-eqb, eqb-true}
-use Rattle.lists.specs.Lists.{if_then_else_, upFrom, below, keep, nonempty}
+use Rattle.lists.specs.Lists.{if_then_else_, upFrom, below, keep, nonempty, write}
 use Rattle.lists.proofs.ListLaws.{same-test, not-both, both-true, and-both, keep-mem, mem-keep, keep-same, mem-nonempty, nonempty-mem, upFrom-mem, mem-upFrom}
 use Rattle.states.specs.declared.States.{States}
-use Rattle.states.specs.Sets.{bit, words, ofWords, word, member, wordOf, setOf, members, leastOf}
+use Rattle.states.specs.Sets.{bit, words, wordsAt, ofWords, word, member, wordOf, setOf, members, leastOf}
 use Rattle.states.proofs.BitLaws.{bit-not, bit-none, bit-pow, bits-equal, or-none, word-lt, word-bit}
 
 -- The words of a set are that set.
@@ -59,6 +60,32 @@ member-above set s h =
 -- The set of four words.
 abbrev pub four-words : (x y z w : ℕ) → States
 four-words x y z w = record { w0 = x; w1 = y; w2 = z; w3 = w }
+
+-- Behind the last word there is no state.
+pub none-behind : (ws : List ℕ) (i : ℕ) → length ws ≤ i → setOf (λ s. false) ≡ wordsAt ws i
+unfolding setOf wordsAt
+none-behind ws i h =
+    let none : ((j : ℕ) → length ws ≤ j → 0 ≡ getD ws j 0) = λ j l. sym (List·getD-eq-default ws 0 {n = j} l) in
+    λ k. four-words (none i h k) (none (i + 1) (omega arith) k) (none (i + 2) (omega arith) k) (none (i + 3) (omega arith) k)
+
+-- The words of a set stored one behind the other are a writing; behind the last word nothing is written.
+pub put-words : (xs us vs ws zs : List ℕ) (i : ℕ) (s : States) → us ≡ set xs i (s .w0) → vs ≡ set us (i + 1) (s .w1) → ws ≡ set vs (i + 2) (s .w2) → zs ≡ set ws (i + 3) (s .w3)
+    → zs ≡ write xs i (words s)
+unfolding write words
+put-words xs us vs ws zs i s a b c d =
+    let e : i + 2 ≡ i + 1 + 1 = omega arith in
+    let f : i + 3 ≡ i + 1 + 1 + 1 = omega arith in
+    let ab = b ∙ ap (λ (ys : List ℕ). set ys (i + 1) (s .w1)) a in
+    let bc = c ∙ ap₂ (λ (ys : List ℕ) (j : ℕ). set ys j (s .w2)) ab e in
+    d ∙ ap₂ (λ (ys : List ℕ) (j : ℕ). set ys j (s .w3)) bc f
+
+written-none : (xs : List ℕ) (i : ℕ) (ys : List ℕ) → length xs ≤ i → write xs i ys ≡ xs
+unfolding write
+written-none xs i [] h = refl
+written-none xs i (y ∷ ys) h = ap (λ (us : List ℕ). write us (i + 1) ys) (set-out xs i y h) ∙ written-none xs (i + 1) ys (omega arith)
+
+pub put-none : (xs : List ℕ) (i : ℕ) (s : States) → length xs ≤ i → xs ≡ write xs i (words s)
+put-none xs i s h = sym (written-none xs i (words s) h)
 
 -- Two sets are equal where their words are.
 set-ext : (a b : States) → ((i : ℕ) → i < 4 → word a i ≡ word b i) → a ≡ b

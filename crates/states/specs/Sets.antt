@@ -15,8 +15,12 @@ bit w k = eqb (w / 2 ^ k % 2) 1
 unfoldable pub words : States → List ℕ
 words set = set .w0 ∷ set .w1 ∷ set .w2 ∷ set .w3 ∷ []
 
+unfoldable pub wordsAt : (ws : List ℕ) (i : ℕ) → States
+wordsAt ws i = record { w0 = getD ws i 0; w1 = getD ws (i + 1) 0; w2 = getD ws (i + 2) 0; w3 = getD ws (i + 3) 0 }
+
 unfoldable pub ofWords : List ℕ → States
-ofWords ws = record { w0 = getD ws 0 0; w1 = getD ws 1 0; w2 = getD ws 2 0; w3 = getD ws 3 0 }
+unfolding wordsAt
+ofWords ws = wordsAt ws 0
 
 -- Word i of a set; there are four.
 unfoldable pub word : States → ℕ → ℕ

@@ -3,8 +3,9 @@ ghost use mathlib.Core.Path.{_≡_};
 ghost use mathlib.Core.Bool.{false, not, _&&_, _||_, Bool·beq};
 ghost use Prim.Native.Nat.{_^_};
 ghost use lib.Dec.{eqb, ltb};
-ghost use Rattle.lists.specs.Lists.{nonempty};
-ghost use Rattle.states.specs.Sets.{words as wordsOf, ofWords, member, setOf, members, leastOf};
+ghost use lib.ListN.{getD, set};
+ghost use Rattle.lists.specs.Lists.{nonempty, write};
+ghost use Rattle.states.specs.Sets.{words as wordsOf, wordsAt, ofWords, member, setOf, members, leastOf};
 
 // Four words: state s has weight 2^(s mod 64) in word s div 64.
 pub struct States {
@@ -14,20 +15,62 @@ pub struct States {
     pub w3: u64,
 }
 
+// Word i of some; past the end 0.
+fn word_at(words: &[u64], i: usize) -> u64
+    ensures { λ r. ⌜ r ≡ getD (now (words .entry)) i 0 ⌝ }
+{
+    if i < words.len() {
+        return words[i];
+    }
+    0
+}
+
+// Writes word i, if it is there.
+fn put_word(words: &mut [u64], i: usize, word: u64)
+    ensures { λ r. ⌜ now (words .exit) ≡ set (now (words .entry)) i word ⌝ }
+{
+    if i < words.len() {
+        words[i] = word;
+    }
+}
+
 impl States {
     // The words of a set.
     pub const WORDS: usize = 4;
+
+    // The set that four words are, from word i on. A word past the end counts as 0.
+    pub fn at(words: &[u64], i: usize) -> States
+        ensures { λ r. ⌜ r ≡ wordsAt (now (words .entry)) i ⌝ }
+    {
+        if words.len() <= i {
+            return States::empty();
+        }
+        States {
+            w0: word_at(words, i),
+            w1: word_at(words, i + 1),
+            w2: word_at(words, i + 2),
+            w3: word_at(words, i + 3),
+        }
+    }
 
     // The set that four words are.
     pub fn of_words(words: &[u64; States::WORDS]) -> States
         ensures { λ r. ⌜ r ≡ ofWords (now (words .entry)) ⌝ }
     {
-        States {
-            w0: words[0],
-            w1: words[1],
-            w2: words[2],
-            w3: words[3],
+        States::at(words, 0)
+    }
+
+    // Writes its words from word i on. What there is no room for is left out.
+    pub fn put(self, words: &mut [u64], i: usize)
+        ensures { λ r. ⌜ now (words .exit) ≡ write (now (words .entry)) i (wordsOf self) ⌝ }
+    {
+        if words.len() <= i {
+            return;
         }
+        put_word(words, i, self.w0);
+        put_word(words, i + 1, self.w1);
+        put_word(words, i + 2, self.w2);
+        put_word(words, i + 3, self.w3);
     }
 
     // Its words.

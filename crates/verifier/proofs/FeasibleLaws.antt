@@ -10,15 +10,15 @@ use lib.Dec.{ltb, eqb}
 use lib.ListN.{length, getD, take, drop, set, length-set, take-append-drop}
 use lib.Seq.{take-suc-set, drop-set-lt, drop-drop, length-take-le}
 use borrow.Author.Tests.{lt-ltb, le-ltb, eq-eqb, ne-eqb, ltb-true, ltb-false, eqb-true}
-use Rattle.lists.specs.Lists.{below, exists, nonempty}
+use Rattle.lists.specs.Lists.{below, exists, nonempty, write}
 use Rattle.lists.proofs.ListLaws.{or-none, same-test, both-true, and-both, exists-same, exists-mem, mem-exists, upFrom-mem, mem-upFrom, nonempty-keep, exists-none}
 use Rattle.states.specs.declared.States.{States}
-use Rattle.states.specs.Sets.{words, member, setOf, members, leastOf}
+use Rattle.states.specs.Sets.{words, member, setOf, members, leastOf, wordsAt}
 use Rattle.states.proofs.SetLaws.{member-setOf, set-cong, members-setOf}
 use Rattle.semantics.specs.Runs.{Entry, entry, History}
 use Rattle.semantics.specs.Verdict.{trace, traceFrom, written}
 use Rattle.routine.specs.declared.memory.Head.{Head}
-use Rattle.routine.specs.Memory.{write, setAt, headAt}
+use Rattle.routine.specs.Memory.{setAt, headAt}
 use Rattle.routine.proofs.MemoryLaws.{set-in}
 use Rattle.routine.proofs.WriteLaws.{write-length, write-elsewhere, write-back, words-four}
 use Rattle.progression.specs.Machine.{gathered, effect, stepped}
@@ -166,7 +166,7 @@ module _ (heads sets : List ℕ) (action reply : ℕ) (later : States) (head : H
 -- Feasible set k once it is written, and the sets behind it.
 module _ (memory : List ℕ) (k : ℕ) (set : States) where
   set-written : 4 * k + 4 ≤ length memory → k < 65 → setAt (write memory (4 * k) (words set)) k ≡ set
-  unfolding words
+  unfolding words wordsAt
   set-written h l =
       let m = write memory (4 * k) (words set) in
       let e : ((j : ℕ) → j < 4 → getD (write memory (4 * k) (words set)) (4 * k + j) 0 ≡ getD (words set) j 0) = write-back memory (4 * k) (words set) (omega arith) in
@@ -175,7 +175,7 @@ module _ (memory : List ℕ) (k : ℕ) (set : States) where
       sym (set-in m k (omega arith)) ∙ (λ i. record { w0 = e₀ i; w1 = e 1 (omega arith) i; w2 = e 2 (omega arith) i; w3 = e 3 (omega arith) i })
 
   set-behind : (j : ℕ) → k < j → j < 65 → setAt (write memory (4 * k) (words set)) j ≡ setAt memory j
-  unfolding words
+  unfolding words wordsAt
   set-behind j h l =
       let e : ((i : ℕ) → getD (write memory (4 * k) (words set)) (4 * j + i) 0 ≡ getD memory (4 * j + i) 0) = λ i. write-elsewhere memory (4 * k) (words set) (4 * j + i) (λ n m e. omega (arith, m, e, words-four set)) in
       let e₀ : getD (write memory (4 * k) (words set)) (4 * j) 0 ≡ getD memory (4 * j) 0 = write-elsewhere memory (4 * k) (words set) (4 * j) (λ n m e. omega (arith, m, e, words-four set)) in

@@ -9,12 +9,12 @@ use native.Mathlib.Omega.{arith}
 use lib.Dec.{eqb, ltb}
 use lib.ListN.{length, getD, set, length-replicate, getD-replicate}
 use borrow.Author.Tests.{eqb-true, eqb-false, le-ltb, lt-ltb, ltb-true, ltb-false, leb-true}
-use Rattle.lists.specs.Lists.{if_then_else_, below, nonempty}
+use Rattle.lists.specs.Lists.{if_then_else_, below, nonempty, write}
 use Rattle.lists.proofs.ListLaws.{both-true}
 use Rattle.states.specs.declared.States.{States}
-use Rattle.states.specs.Sets.{words, members}
+use Rattle.states.specs.Sets.{words, members, wordsAt}
 use Rattle.semantics.specs.Runs.{Entry, entry}
-use Rattle.routine.specs.Memory.{write, headAt}
+use Rattle.routine.specs.Memory.{headAt}
 use Rattle.routine.proofs.WriteLaws.{write-length, write-elsewhere, write-back, written-on, four-stores}
 use Rattle.progression.specs.declared.place.Place.{Place}
 use Rattle.progression.specs.Machine.{settled, stepped}
@@ -164,17 +164,12 @@ module _ (budget : ℕ) where
         answered-carries (From left at) (From other at) (search-carries left other l at) set action c n
         (ap (λ (k : ℕ). eachReply (Visits (From left at) set action) (below k) c) (sym e) ∙ sym (replies-all heads nodes sets budget (From left at) set action m c) ∙ p)
 
--- Eight stores at places that are counted from the first are a writing: four of them behind four.
-module _ (xs : List ℕ) (i a b c d e f g h : ℕ) where
-  abbrev four : List ℕ
-  four = set (set (set (set xs i a) (i + 1) b) (i + 2) c) (i + 3) d
-
-  pub eight-stores : set (set (set (set four (i + 4) e) (i + 5) f) (i + 6) g) (i + 7) h ≡ write xs i (a ∷ b ∷ c ∷ d ∷ e ∷ f ∷ g ∷ h ∷ [])
-  eight-stores =
-      let e₅ : i + 5 ≡ i + 4 + 1 = omega arith in
-      let e₆ : i + 6 ≡ i + 4 + 2 = omega arith in
-      let e₇ : i + 7 ≡ i + 4 + 3 = omega arith in
-      written-on xs four _ i (i + 4) (a ∷ b ∷ c ∷ d ∷ []) (e ∷ f ∷ g ∷ h ∷ []) (four-stores xs i a b c d) (rw (e₅, e₆, e₇) (four-stores four (i + 4) e f g h)) refl
+-- Four stores and the words of the set behind them are the writing of a slot.
+pub slot-stored : (xs zs : List ℕ) (i : ℕ) (k : Slot) → zs ≡ write (set (set (set (set xs i (k .onward)) (i + 1) (k .action)) (i + 2) (k .depth)) (i + 3) (k .behind)) (i + 4) (words (k .set))
+    → zs ≡ write xs i (slotWords k)
+unfolding slotWords
+slot-stored xs zs i k e =
+    written-on xs _ zs i (i + 4) (k .onward ∷ k .action ∷ k .depth ∷ k .behind ∷ []) (words (k .set)) (four-stores xs i (k .onward) (k .action) (k .depth) (k .behind)) e refl
 
 -- Two slots are the same if their words are.
 slot-by : (a b : Slot) → ((i : ℕ) → i < slotSize → getD (slotWords a) i 0 ≡ getD (slotWords b) i 0) → a ≡ b
@@ -187,6 +182,24 @@ slot-by a b e = λ i. record {
   set = record { w0 = e 4 (omega arith) i; w1 = e 5 (omega arith) i; w2 = e 6 (omega arith) i; w3 = e 7 (omega arith) i };
 }
 
+-- Slot j, where its set is read by itself.
+pub slot-with : (memory : List ℕ) (j : ℕ) (set : States) → set ≡ wordsAt memory (slotSize * j + 4)
+    → record {
+      onward = getD memory (slotSize * j) 0;
+      action = getD memory (slotSize * j + 1) 0;
+      depth = getD memory (slotSize * j + 2) 0;
+      behind = getD memory (slotSize * j + 3) 0;
+      set = set;
+    } ≡ slotAt memory j
+unfolding slotAt
+slot-with memory j set e = λ i. record {
+  onward = getD memory (slotSize * j) 0;
+  action = getD memory (slotSize * j + 1) 0;
+  depth = getD memory (slotSize * j + 2) 0;
+  behind = getD memory (slotSize * j + 3) 0;
+  set = e i;
+}
+
 -- The words of slot j are those of the memory.
 slot-word : (memory : List ℕ) (j i : ℕ) → i < slotSize → getD (slotWords (slotAt memory j)) i 0 ≡ getD memory (slotSize * j + i) 0
 unfolding slotAt slotWords words
@@ -195,9 +208,9 @@ slot-word memory j (suc zero) l = refl
 slot-word memory j (suc (suc zero)) l = refl
 slot-word memory j (suc (suc (suc zero))) l = refl
 slot-word memory j (suc (suc (suc (suc zero)))) l = refl
-slot-word memory j (suc (suc (suc (suc (suc zero))))) l = refl
-slot-word memory j (suc (suc (suc (suc (suc (suc zero)))))) l = refl
-slot-word memory j (suc (suc (suc (suc (suc (suc (suc zero))))))) l = refl
+slot-word memory j (suc (suc (suc (suc (suc zero))))) l = let z : slotSize * j + 4 + 1 ≡ slotSize * j + 5 = omega arith in ap (λ (k : ℕ). getD memory k 0) z
+slot-word memory j (suc (suc (suc (suc (suc (suc zero)))))) l = let z : slotSize * j + 4 + 2 ≡ slotSize * j + 6 = omega arith in ap (λ (k : ℕ). getD memory k 0) z
+slot-word memory j (suc (suc (suc (suc (suc (suc (suc zero))))))) l = let z : slotSize * j + 4 + 3 ≡ slotSize * j + 7 = omega arith in ap (λ (k : ℕ). getD memory k 0) z
 slot-word memory j (suc (suc (suc (suc (suc (suc (suc (suc i)))))))) l = absurd (omega arith)
 
 words-eight : (k : Slot) → length (slotWords k) ≡ slotSize

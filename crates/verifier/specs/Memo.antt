@@ -6,7 +6,7 @@ use mathlib.Core.List.{List, [], _∷_}
 use mathlib.Core.Bool.{Bool, _&&_}
 use lib.Dec.{eqb, leb, ltb}
 use lib.ListN.{length, getD}
-use Rattle.states.specs.Sets.{words}
+use Rattle.states.specs.Sets.{words, wordsAt}
 use Rattle.format.specs.Format.{mostActs}
 use Rattle.lists.specs.Lists.{if_then_else_}
 use Rattle.states.specs.declared.States.{States}
@@ -19,12 +19,13 @@ use Rattle.verifier.specs.Search.{Found, passed, over, answered, searche
 
 -- Slot j of a memory.
 unfoldable pub slotAt : (memory : List ℕ) (j : ℕ) → Slot
+unfolding wordsAt
 slotAt memory j = record {
   onward = getD memory (slotSize * j) 0;
   action = getD memory (slotSize * j + 1) 0;
   depth = getD memory (slotSize * j + 2) 0;
   behind = getD memory (slotSize * j + 3) 0;
-  set = record { w0 = getD memory (slotSize * j + 4) 0; w1 = getD memory (slotSize * j + 5) 0; w2 = getD memory (slotSize * j + 6) 0; w3 = getD memory (slotSize * j + 7) 0 };
+  set = wordsAt memory (slotSize * j + 4);
 }
 
 -- A slot as its words.

@@ -12,12 +12,12 @@ ghost use mathlib.Core.Path.{_≡_};
 ghost use mathlib.Core.Bool.{_&&_};
 ghost use Prim.Native.Nat.{_+_, _*_, _/_, _%_, _<_, _≤_};
 ghost use lib.ListN.{length};
-ghost use Rattle.lists.specs.Lists.{exists, below};
+ghost use Rattle.lists.specs.Lists.{exists, below, write};
 ghost use Rattle.states.specs.Sets.{words, member, setOf};
 ghost use Rattle.semantics.specs.Runs.{entry};
 ghost use Rattle.format.specs.Format.{mostActs};
 ghost use Rattle.semantics.specs.Verdict.{trace, written};
-ghost use Rattle.routine.specs.Memory.{write, setAt};
+ghost use Rattle.routine.specs.Memory.{setAt};
 ghost use Rattle.verifier.specs.Least.{preimage as preimageOf, pathFrom, leastStates, FeasibleFrom};
 
 // The states s for which set `first` + s has a state of a set.
@@ -61,12 +61,7 @@ fn feasible_at(feasible: &[u64; FEASIBLE_WORDS], k: usize) -> States
     requires { ⌜ k < mostActs + 1 ⌝ }
     ensures { λ r. ⌜ r ≡ setAt (now (feasible .entry)) k ⌝ }
 {
-    States {
-        w0: feasible[4 * k],
-        w1: feasible[4 * k + 1],
-        w2: feasible[4 * k + 2],
-        w3: feasible[4 * k + 3],
-    }
+    States::at(feasible, 4 * k)
 }
 
 // Writes feasible set k.
@@ -74,10 +69,7 @@ fn put_feasible(feasible: &mut [u64; FEASIBLE_WORDS], k: usize, set: States)
     requires { ⌜ k < mostActs + 1 ⌝ }
     ensures { λ r. ⌜ now (feasible .exit) ≡ write (now (feasible .entry)) (4 * k) (words set) ⌝ }
 {
-    feasible[4 * k] = set.w0;
-    feasible[4 * k + 1] = set.w1;
-    feasible[4 * k + 2] = set.w2;
-    feasible[4 * k + 3] = set.w3;
+    set.put(feasible, 4 * k);
 }
 
 // The action and the reply of a path's byte. (A byte that is read from an array has its bound here, as a parameter.)

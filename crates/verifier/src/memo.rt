@@ -7,7 +7,7 @@ use states::States;
 use std::num::wrapping_add_u64;
 ghost use mathlib.Core.Path.{_≡_};
 ghost use Prim.Native.Nat.{_*_, _<_};
-ghost use Rattle.routine.specs.Memory.{write};
+ghost use Rattle.lists.specs.Lists.{write};
 ghost use Rattle.verifier.specs.Answers.{slotMost, slotSize};
 ghost use Rattle.verifier.specs.Memo.{slotAt, slotWords, recalled};
 
@@ -59,12 +59,7 @@ fn slot_at(memo: &[u64; MEMO_WORDS], j: usize) -> Slot
         action: memo[i + 1],
         depth: memo[i + 2],
         behind: memo[i + 3],
-        set: States {
-            w0: memo[i + 4],
-            w1: memo[i + 5],
-            w2: memo[i + 6],
-            w3: memo[i + 7],
-        },
+        set: States::at(memo, i + 4),
     }
 }
 
@@ -105,8 +100,5 @@ pub(crate) fn remember(memo: &mut [u64; MEMO_WORDS], j: usize, slot: Slot)
     memo[i + 1] = slot.action;
     memo[i + 2] = slot.depth;
     memo[i + 3] = slot.behind;
-    memo[i + 4] = set.w0;
-    memo[i + 5] = set.w1;
-    memo[i + 6] = set.w2;
-    memo[i + 7] = set.w3;
+    set.put(memo, i + 4);
 }

@@ -2,7 +2,7 @@
 use mathlib.Core.Path.{sym, ap, _∙_}
 use lib.ListN.{length}
 use lib.Seq.{length-take-le}
-use Rattle.routine.specs.Memory.{write}
+use Rattle.lists.specs.Lists.{write}
 use Rattle.planverify.proofs.InputLaws.{within-read, lines-read, lines-failed}
 use borrow.Author.Needs.{needs}
 use Rattle.planverify.proofs.lines_for.Statement.{statement}

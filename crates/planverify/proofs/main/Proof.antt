@@ -5,7 +5,7 @@ use mathlib.Core.List.{List}
 use native.Mathlib.Omega.{arith}
 use lib.ListN.{length, length-replicate}
 use lib.Seq.{length-take-le}
-use Rattle.routine.specs.Memory.{write}
+use Rattle.lists.specs.Lists.{write}
 use Rattle.routine.proofs.WriteLaws.{write-length}
 use borrow.Author.Needs.{needs}
 use Rattle.semantics.specs.Printing.{mostLines}

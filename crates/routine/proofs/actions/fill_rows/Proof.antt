@@ -7,7 +7,7 @@ use native.Mathlib.Omega.{arith}
 use Rattle.states.specs.Sets.{words, member}
 use Rattle.format.specs.Syntax.{Objective, change}
 use Rattle.format.specs.Standing.{ObjectiveAt}
-use Rattle.routine.specs.Memory.{write}
+use Rattle.lists.specs.Lists.{write}
 use Rattle.routine.specs.Tables.{rows}
 use Rattle.routine.proofs.ActionLaws.{rowOf, rowsFrom, rows-first, rows-next, rows-last}
 use Rattle.routine.proofs.actions.fill_rows.Statement.{statement}

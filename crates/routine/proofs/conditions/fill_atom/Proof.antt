@@ -5,7 +5,7 @@ use denote.Ref.{now}
 use Rattle.states.specs.declared.States.{States}
 use Rattle.reader.specs.Answers.{inTheory}
 use Rattle.states.specs.Sets.{words}
-use Rattle.routine.specs.Memory.{write}
+use Rattle.lists.specs.Lists.{write}
 use Rattle.routine.proofs.EvaluatedLaws.{found, never-refused, states-hold}
 use borrow.Author.Needs.{needs}
 use Rattle.routine.proofs.conditions.fill_atom.Statement.{statement}

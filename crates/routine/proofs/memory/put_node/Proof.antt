@@ -5,7 +5,8 @@ use mathlib.Core.List.{List, [], _∷_}
 use mathlib.Core.Path.{_≡_, subst}
 use native.Mathlib.Omega.{arith}
 use Rattle.routine.specs.declared.memory.Node.{Node}
-use Rattle.routine.specs.Memory.{write, cells, Small}
+use Rattle.lists.specs.Lists.{write}
+use Rattle.routine.specs.Memory.{cells, Small}
 use Rattle.routine.proofs.memory.put_node.Statement.{statement}
 use Rattle.routine.proofs.memory.put_node.Tie as tie
 

@@ -1,32 +1,15 @@
 -- `states::States::of_words` meets its contract. Assumes nothing.
-use mathlib.Core.Path.{refl}
-use Rattle.states.specs.Sets.{ofWords}
 use borrow.Author.Needs.{needs}
+use Rattle.states.specs.Sets.{ofWords}
 use Rattle.states.proofs.States.of_words.Statement.{statement}
 use Rattle.states.proofs.States.of_words.Tie as tie
 
-element-copy-out-t4 : tie.Need-element-copy-out-t4
-element-copy-out-t4 c = search needs
-
-element-copy-out-t7 : tie.Need-element-copy-out-t7
-element-copy-out-t7 c = search needs
-
-element-copy-out-t10 : tie.Need-element-copy-out-t10
-element-copy-out-t10 c = search needs
-
-element-copy-out-t13 : tie.Need-element-copy-out-t13
-element-copy-out-t13 c = search needs
+at-requires : tie.Need-at-requires
+at-requires c κs = search needs
 
 returns : tie.Need-returns
 unfolding ofWords
-returns c = refl
+returns c = c .at .ensures
 
 pub of-words-spec : {M : Type 1} → statement M
-of-words-spec =
-    tie.close
-    (tie.spec
-    element-copy-out-t4
-    element-copy-out-t7
-    element-copy-out-t10
-    element-copy-out-t13
-    returns)
+of-words-spec = tie.close (tie.spec at-requires returns)

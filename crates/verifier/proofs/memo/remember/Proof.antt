@@ -1,7 +1,5 @@
--- `verifier::memo::remember` meets its contract: the eight stores are the writing of the slot's words. Assumes nothing.
-use Rattle.states.specs.Sets.{words}
-use Rattle.verifier.specs.Memo.{slotWords}
-use Rattle.verifier.proofs.MemoLaws.{eight-stores}
+-- `verifier::memo::remember` meets its contract: four stores, and the words of the set behind them. Assumes nothing.
+use Rattle.verifier.proofs.MemoLaws.{slot-stored}
 use borrow.Author.Needs.{needs}
 use Rattle.verifier.proofs.memo.remember.Statement.{statement}
 use Rattle.verifier.proofs.memo.remember.Tie as tie
@@ -42,45 +40,14 @@ mul-memo-4 c = search needs
 element-write-memo-4 : tie.Need-element-write-memo-4
 element-write-memo-4 c = search needs
 
-add-memo-4 : tie.Need-add-memo-4
-add-memo-4 c = search needs
+add-put : tie.Need-add-put
+add-put c = search needs
 
-mul-memo-5 : tie.Need-mul-memo-5
-mul-memo-5 c = search needs
-
-element-write-memo-5 : tie.Need-element-write-memo-5
-element-write-memo-5 c = search needs
-
-add-memo-5 : tie.Need-add-memo-5
-add-memo-5 c = search needs
-
-mul-memo-6 : tie.Need-mul-memo-6
-mul-memo-6 c = search needs
-
-element-write-memo-6 : tie.Need-element-write-memo-6
-element-write-memo-6 c = search needs
-
-add-memo-6 : tie.Need-add-memo-6
-add-memo-6 c = search needs
-
-mul-memo-7 : tie.Need-mul-memo-7
-mul-memo-7 c = search needs
-
-element-write-memo-7 : tie.Need-element-write-memo-7
-element-write-memo-7 c = search needs
-
-add-memo-7 : tie.Need-add-memo-7
-add-memo-7 c = search needs
-
-mul-memo-8 : tie.Need-mul-memo-8
-mul-memo-8 c = search needs
-
-element-write-memo-8 : tie.Need-element-write-memo-8
-element-write-memo-8 c = search needs
+put-requires : tie.Need-put-requires
+put-requires c κs = search needs
 
 returns : tie.Need-returns
-unfolding slotWords words
-returns c = eight-stores _ _ _ _ _ _ _ _ _ _
+returns c = slot-stored _ _ _ (c .before .before .before .args .slot) (c .put .ensures)
 
 pub remember-spec : {M : Type 1} → statement M
 remember-spec =
@@ -98,16 +65,6 @@ remember-spec =
     add-memo-3
     mul-memo-4
     element-write-memo-4
-    add-memo-4
-    mul-memo-5
-    element-write-memo-5
-    add-memo-5
-    mul-memo-6
-    element-write-memo-6
-    add-memo-6
-    mul-memo-7
-    element-write-memo-7
-    add-memo-7
-    mul-memo-8
-    element-write-memo-8
+    add-put
+    put-requires
     returns)

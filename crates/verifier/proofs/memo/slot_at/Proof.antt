@@ -1,6 +1,5 @@
 -- `verifier::memo::slot_at` meets its contract: the eight words are those of the slot. Assumes nothing.
-use mathlib.Core.Path.{refl}
-use Rattle.verifier.specs.Memo.{slotAt}
+use Rattle.verifier.proofs.MemoLaws.{slot-with}
 use borrow.Author.Needs.{needs}
 use Rattle.verifier.proofs.memo.slot_at.Statement.{statement}
 use Rattle.verifier.proofs.memo.slot_at.Tie as tie
@@ -41,45 +40,14 @@ mul-t19 c = search needs
 element-copy-out-t22 : tie.Need-element-copy-out-t22
 element-copy-out-t22 c = search needs
 
-add-t23 : tie.Need-add-t23
-add-t23 c = search needs
+add-at : tie.Need-add-at
+add-at c = search needs
 
-mul-t24 : tie.Need-mul-t24
-mul-t24 c = search needs
-
-element-copy-out-t27 : tie.Need-element-copy-out-t27
-element-copy-out-t27 c = search needs
-
-add-t28 : tie.Need-add-t28
-add-t28 c = search needs
-
-mul-t29 : tie.Need-mul-t29
-mul-t29 c = search needs
-
-element-copy-out-t32 : tie.Need-element-copy-out-t32
-element-copy-out-t32 c = search needs
-
-add-t33 : tie.Need-add-t33
-add-t33 c = search needs
-
-mul-t34 : tie.Need-mul-t34
-mul-t34 c = search needs
-
-element-copy-out-t37 : tie.Need-element-copy-out-t37
-element-copy-out-t37 c = search needs
-
-add-t38 : tie.Need-add-t38
-add-t38 c = search needs
-
-mul-t39 : tie.Need-mul-t39
-mul-t39 c = search needs
-
-element-copy-out-t42 : tie.Need-element-copy-out-t42
-element-copy-out-t42 c = search needs
+at-requires : tie.Need-at-requires
+at-requires c κs = search needs
 
 returns : tie.Need-returns
-unfolding slotAt
-returns c = refl
+returns c = slot-with _ _ _ (c .at .ensures)
 
 pub slot-at-spec : {M : Type 1} → statement M
 slot-at-spec =
@@ -97,16 +65,6 @@ slot-at-spec =
     add-t18
     mul-t19
     element-copy-out-t22
-    add-t23
-    mul-t24
-    element-copy-out-t27
-    add-t28
-    mul-t29
-    element-copy-out-t32
-    add-t33
-    mul-t34
-    element-copy-out-t37
-    add-t38
-    mul-t39
-    element-copy-out-t42
+    add-at
+    at-requires
     returns)
