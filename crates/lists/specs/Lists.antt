@@ -1,4 +1,4 @@
--- Choices, lists of numbers, tests over lists, and order. Nothing here is of document 01; its definitions are written with these.
+-- Choices, lists of numbers, tests over lists, order, and what is written into a list. Nothing here is of document 01; its definitions are written with these.
 use Prim.Native.Nat.{ℕ, zero, suc, _+_, _<_}
 use mathlib.Core.Path.{_≡_}
 use mathlib.Core.Logic.{_⊎_}

@@ -11,7 +11,7 @@ use Rattle.states.specs.declared.States.{States}
 unfoldable pub bit : (w k : ℕ) → Bool
 bit w k = eqb (w / 2 ^ k % 2) 1
 
--- The words of a set, and the set that four words are.
+-- The words of a set, and the set that four words are, from word i on or from the first; a word that isn't there counts as 0.
 unfoldable pub words : States → List ℕ
 words set = set .w0 ∷ set .w1 ∷ set .w2 ∷ set .w3 ∷ []
 
