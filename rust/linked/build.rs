@@ -1,4 +1,4 @@
-//! Links the static library that `rt staticlib exports` writes, and with the feature
+//! Links the static library that `rt staticlib recovery` writes, and with the feature
 //! `before` the one that `tests/before` writes.
 
 use std::path::PathBuf;
@@ -7,7 +7,7 @@ fn main() {
     let root = PathBuf::from(std::env::var("CARGO_MANIFEST_DIR").unwrap()).join("../..");
     let folder = root.join("target/staticlib");
     println!("cargo:rustc-link-search=native={}", folder.display());
-    let mut libraries = vec!["exports"];
+    let mut libraries = vec!["recovery"];
     if std::env::var_os("CARGO_FEATURE_BEFORE").is_some() {
         libraries.push("before");
     }

@@ -5,12 +5,12 @@ mod common;
 use std::collections::HashSet;
 
 use common::{fact, known, plain, sequence, test, unhex};
-use recovery::check::{check, Checked};
-use recovery::encode::encode;
-use recovery::random::{damaged, good, Random, Size};
-use recovery::read::read;
-use recovery::runs::{Listing, Run};
-use recovery::sheet::Sheet;
+use reference::check::{check, Checked};
+use reference::encode::encode;
+use reference::random::{damaged, good, Random, Size};
+use reference::read::read;
+use reference::runs::{Listing, Run};
+use reference::sheet::Sheet;
 
 fn answer(yes: bool) -> Checked {
     if yes {

@@ -8,21 +8,21 @@ use std::path::PathBuf;
 use std::process::{Command, Stdio};
 
 use common::{unhex, verdict};
-use recovery::print::lines;
-use recovery::read::read;
-use recovery::refusal::Refusal;
-use recovery::verify::Answer;
+use reference::print::lines;
+use reference::read::read;
+use reference::refusal::Refusal;
+use reference::verify::Answer;
 
-fn planverify(sheet: &[u8]) -> String {
-    let mut child = Command::new(env!("CARGO_BIN_EXE_planverify"))
+fn reference(sheet: &[u8]) -> String {
+    let mut child = Command::new(env!("CARGO_BIN_EXE_reference"))
         .stdin(Stdio::piped())
         .stdout(Stdio::piped())
         .spawn()
-        .expect("planverify starts");
+        .expect("reference starts");
     let mut input = child.stdin.take().expect("a pipe");
-    input.write_all(sheet).expect("planverify reads its input");
+    input.write_all(sheet).expect("reference reads its input");
     drop(input);
-    let output = child.wait_with_output().expect("planverify ends");
+    let output = child.wait_with_output().expect("reference ends");
     assert!(output.status.success());
     String::from_utf8(output.stdout).expect("ASCII")
 }
@@ -53,7 +53,7 @@ fn samples_through_the_command() {
         if path.extension().is_some_and(|extension| extension == "hex") {
             let sheet = unhex(&fs::read_to_string(&path).expect("a text file"));
             let expected = fs::read_to_string(path.with_extension("out")).expect("a text file");
-            assert_eq!(planverify(&sheet), expected, "{}", path.display());
+            assert_eq!(reference(&sheet), expected, "{}", path.display());
             checked += 1;
         }
     }
@@ -62,7 +62,7 @@ fn samples_through_the_command() {
 
 #[test]
 fn long_input() {
-    assert_eq!(planverify(&vec![0x11; 300_000]), "refused 1\n");
+    assert_eq!(reference(&vec![0x11; 300_000]), "refused 1\n");
 }
 
 #[test]
@@ -72,7 +72,7 @@ fn stopped_names_the_budget() {
     let program = ["01 00000".repeat(20), "00".into()].concat();
     let sheet = common::unbits(&[head, &program].concat());
     assert!(read(&sheet).is_ok());
-    assert_eq!(planverify(&sheet), "stopped 1000000\n");
+    assert_eq!(reference(&sheet), "stopped 1000000\n");
 }
 
 fn rows(seed: &str, count: &str) -> String {

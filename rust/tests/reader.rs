@@ -3,11 +3,11 @@
 mod common;
 
 use common::{fact, known, new, not_known, nots, plain, sequence, stays, unbits, wide};
-use recovery::encode::encode;
-use recovery::random::{damaged, good, Random, Size};
-use recovery::read::read;
-use recovery::refusal::Refusal;
-use recovery::sheet::{Action, Epistemic, Objective, Program, Sheet};
+use reference::encode::encode;
+use reference::random::{damaged, good, Random, Size};
+use reference::read::read;
+use reference::refusal::Refusal;
+use reference::sheet::{Action, Epistemic, Objective, Program, Sheet};
 
 /// Edition 1, one fact, no action.
 const HEAD: &str = "0001 0001 00000";

@@ -3,12 +3,12 @@
 mod common;
 
 use common::{decided, fact, known, new, not_known, plain, sequence, stays, test, verdict};
-use recovery::check::{check, Checked};
-use recovery::encode::encode;
-use recovery::runner::Record;
-use recovery::runs::Listing;
-use recovery::sheet::{Action, Objective, Program, Sheet};
-use recovery::verify::Answer;
+use reference::check::{check, Checked};
+use reference::encode::encode;
+use reference::runner::Record;
+use reference::runs::Listing;
+use reference::sheet::{Action, Objective, Program, Sheet};
+use reference::verify::Answer;
 
 const BUDGET: u32 = 1_000_000;
 

@@ -3,14 +3,14 @@
 mod common;
 
 use common::{fact, known, plain, sequence, test, unhex, wide};
-use recovery::encode::encode;
-use recovery::random::{damaged, good, Random, Size};
-use recovery::read::read;
-use recovery::refusal::Refusal;
-use recovery::runner::{Record, Told};
-use recovery::runs::Listing;
-use recovery::sheet::{Sheet, MAX_ACTION_NODES, MAX_BYTES};
-use recovery::verify::Answer;
+use reference::encode::encode;
+use reference::random::{damaged, good, Random, Size};
+use reference::read::read;
+use reference::refusal::Refusal;
+use reference::runner::{Record, Told};
+use reference::runs::Listing;
+use reference::sheet::{Sheet, MAX_ACTION_NODES, MAX_BYTES};
+use reference::verify::Answer;
 
 const MOST_RUNS: usize = 2000;
 

@@ -8,11 +8,11 @@ use std::path::PathBuf;
 use common::{
     decided, fact, known, new, not_known, nots, plain, sequence, stays, test, unhex, verdict,
 };
-use recovery::encode::encode;
-use recovery::print::lines;
-use recovery::read::read;
-use recovery::sheet::{Action, Epistemic, Objective, Program, Sheet, MAX_TRACE};
-use recovery::verify::{verify, Answer};
+use reference::encode::encode;
+use reference::print::lines;
+use reference::read::read;
+use reference::sheet::{Action, Epistemic, Objective, Program, Sheet, MAX_TRACE};
+use reference::verify::{verify, Answer};
 
 const BUDGET: u32 = 1_000_000;
 

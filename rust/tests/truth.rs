@@ -3,10 +3,10 @@
 mod common;
 
 use common::{fact, known, new, not_known, plain, stays};
-use recovery::sheet::{Action, Objective, Sheet};
-use recovery::states::{is_state, states, StateSet};
-use recovery::step::{effect, gather, keep, replies, start_states, step};
-use recovery::truth::{holds, holds_between, holds_knowing};
+use reference::sheet::{Action, Objective, Sheet};
+use reference::states::{is_state, states, StateSet};
+use reference::step::{effect, gather, keep, replies, start_states, step};
+use reference::truth::{holds, holds_between, holds_knowing};
 
 fn set(members: &[u8]) -> StateSet {
     members.iter().copied().collect()

@@ -3,15 +3,15 @@
 mod common;
 
 use common::{fact, known, plain, sequence, test, unhex};
-use recovery::check::{check, Checked};
-use recovery::encode::encode;
-use recovery::execute::Execution;
-use recovery::random::{damaged, good, Random, Size};
-use recovery::read::read;
-use recovery::refusal::Refusal;
-use recovery::runs::Listing;
-use recovery::sheet::{Objective, Sheet, MAX_TRACE};
-use recovery::verify::{verify, Answer};
+use reference::check::{check, Checked};
+use reference::encode::encode;
+use reference::execute::Execution;
+use reference::random::{damaged, good, Random, Size};
+use reference::read::read;
+use reference::refusal::Refusal;
+use reference::runs::Listing;
+use reference::sheet::{Objective, Sheet, MAX_TRACE};
+use reference::verify::{verify, Answer};
 
 const MOST_RUNS: usize = 3000;
 
@@ -208,7 +208,7 @@ fn stops_early_in_an_enormous_routine() {
     // Two overlapping replies double the histories at each of 64 actions.
     let truth = || Objective::True;
     let sheet = |goal| Sheet {
-        actions: vec![recovery::sheet::Action::Probe(vec![truth(), truth()])],
+        actions: vec![reference::sheet::Action::Probe(vec![truth(), truth()])],
         goal: known(goal),
         program: sequence(&[0; 64]),
         ..plain()

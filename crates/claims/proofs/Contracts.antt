@@ -1,35 +1,31 @@
--- What the contracts of the functions say, of any relations between arguments and results.
-use Prim.Native.Nat.{ℕ, _<_}
+-- What the contracts say, of any library: what a call gave is what the definitions say.
+use Prim.Native.Nat.{ℕ}
 use mathlib.Core.Path.{_≡_}
 use mathlib.Core.List.{List}
 use mathlib.Core.Bool.{Bool}
-use Rattle.routine.specs.Memory.{nodeMost}
-use Rattle.states.specs.declared.States.{States}
-use Rattle.format.specs.Format.{reading}
-use Rattle.reader.specs.declared.sheet.Acceptance.{Acceptance}
-use Rattle.reader.specs.Answers.{answerOf as readOf, withoutValue}
-use Rattle.semantics.specs.Verdict.{verified}
-use Rattle.semantics.specs.Checker.{checked}
-use Rattle.routine.specs.declared.sheet.Prepared.{Prepared}
-use Rattle.routine.specs.Tables.{preparedOf, startOf, TablesAfter}
-use Rattle.progression.specs.declared.place.Place.{Place}
+use Rattle.states.specs.Sets.{words, ofWords}
+use Rattle.format.specs.Format.{Answer, reading}
+use Rattle.reader.specs.Answers.{withoutValue}
+use Rattle.routine.specs.Memory.{Sized}
+use Rattle.progression.specs.declared.place.Place.{Place as Stop}
 use Rattle.progression.specs.Machine.{knownBy, settled, stepped}
-use Rattle.verifier.specs.declared.verdict.Verdict.{Verdict}
-use Rattle.verifier.specs.Answers.{answerOf as verifiedOf}
-use Rattle.checker.specs.declared.Checked.{Checked}
-use Rattle.checker.specs.Answers.{answerOf as checkedOf}
-use Rattle.runner.proofs.ListLaws.{RunnerContracts}
-use Rattle.claims.specs.Demands.{Library}
+use Rattle.runner.specs.Calls.{Form}
+use Rattle.runner.proofs.ListLaws.{RunnerContracts, Going}
+use Rattle.claims.specs.Library.{Library, Gave}
+use Rattle.claims.specs.Library.{ToVerify, AfterVerify, ToCheck, AfterCheck, ToPrepare, AfterPrepare, ToStep, ToSettle, ToKnow, ToLoad, AfterLoad, ToNext, AfterNext, ToReport, AfterReport}
+use Rattle.claims.specs.Terms.{verifiedAs, checkedAs, preparedAs, loadedAs, toldAs, reportedAs}
 
 pub record Contracts {ℓ} (library : Library {ℓ}) : Type ℓ where
-  pub read-contract : (bytes : List ℕ) (a : Acceptance) → library .reads bytes a → readOf a ≡ withoutValue (reading bytes)
-  pub prepare-contract : (bytes heads nodes sets : List ℕ) (p : Prepared) (heads′ nodes′ sets′ : List ℕ) → library .prepares bytes heads nodes sets p heads′ nodes′ sets′
-      → (preparedOf p ≡ startOf (reading bytes)) × TablesAfter (reading bytes) heads nodes sets heads′ nodes′ sets′
-  pub settle-contract : (nodes sets : List ℕ) (set : States) (at : ℕ) (p : Place) → library .settles nodes sets set at p → p ≡ settled nodes sets set at
-  pub settle-bounds : (nodes sets : List ℕ) (set : States) (at node a : ℕ) → library .settles nodes sets set at (Place.Act node a) → (node < nodeMost) × (a < 65536)
-  pub step-contract : (heads sets : List ℕ) (set : States) (a r : ℕ) (next : States) → library .steps heads sets set a r next → next ≡ stepped heads sets set a r
-  pub known-contract : (sets : List ℕ) (k : ℕ) (set : States) (b : Bool) → library .knows sets k set b → b ≡ knownBy sets set k
-  pub verify-contract : (bytes : List ℕ) (budget : ℕ) (old : List ℕ) (r : Verdict) (memory : List ℕ) → library .verifies bytes budget old r memory
-      → (verifiedOf r ≡ verified bytes budget old .answer) × (memory ≡ verified bytes budget old .memory)
-  pub check-contract : (bytes shown : List ℕ) (r : Checked) → library .checks bytes shown r → checkedOf r ≡ checked bytes shown
+  pub read-contract : (sheet : List ℕ) (a : Answer (Unit {0})) → Gave (library .read) sheet a → a ≡ withoutValue (reading sheet)
+  pub verify-contract : (form : Form) (x : ToVerify) (y : AfterVerify) → Gave (library .verify form) x y → y ≡ verifiedAs form x
+  pub check-contract : (form : Form) (x : ToCheck) (y : AfterCheck) → Gave (library .check form) x y → y ≡ checkedAs form x
+  pub prepare-contract : (x : ToPrepare) (y : AfterPrepare) → Gave (library .prepare) x y → y ≡ preparedAs x
+  pub prepare-sized : (x : ToPrepare) (y : AfterPrepare) → Gave (library .prepare) x y → Sized (x .tables .heads) (x .tables .nodes) (x .tables .sets)
+  pub step-contract : (x : ToStep) (set : List ℕ) → Gave (library .step) x set → set ≡ words (stepped (x .tables .heads) (x .tables .sets) (ofWords (x .set)) (x .action) (x .reply))
+  pub settle-contract : (x : ToSettle) (stop : Stop) → Gave (library .settle) x stop → stop ≡ settled (x .tables .nodes) (x .tables .sets) (ofWords (x .set)) (x .at)
+  pub know-contract : (x : ToKnow) (b : Bool) → Gave (library .know) x b → b ≡ knownBy (x .tables .sets) (ofWords (x .set)) (x .formula)
   pub runner-contracts : RunnerContracts (library .runner)
+  pub load-contract : (form : Form) (x : ToLoad) (y : AfterLoad) → Gave (library .load form) x y → y ≡ loadedAs form x
+  pub next-contract : (form : Form) (x : ToNext) (y : AfterNext) → Gave (library .next form) x y → y ≡ toldAs form x
+  pub report-contract : (form : Form) (x : ToReport) (y : AfterReport) → Gave (library .report form) x y → y ≡ reportedAs form x
+  pub going : Going (library .runner)

@@ -3,17 +3,16 @@ use Prim.Native.Nat.{ℕ}
 use mathlib.Core.Path.{_≡_, refl, sym, ap, _∙_}
 use mathlib.Core.Logic.{_⊎_, inl, inr}
 use mathlib.Core.Bool.{Bool}
-use base.Stored.{Coded, coded-set, codedUnit, codedℕ, codedBool, coded×, coded⊎, codedVia}
+use base.Stored.{Coded, coded-set, codedUnit, codedℕ, codedBool, coded×, coded⊎, codedList, codedVia}
 use ghost.Sets.{retract-set}
 use Rattle.format.specs.Format.{Answer, gives, refused}
 use Rattle.semantics.specs.Verdict.{Verdict as Meant, valid, invalid, stopped}
 use Rattle.semantics.specs.Replies.{Told as Telling, to-do, at-end}
-use Rattle.states.specs.declared.States.{States}
 use Rattle.progression.specs.declared.place.Place.{Place}
-use Rattle.states.proofs.States as states-type
 use Rattle.progression.proofs.place.Place as place-type
-use Rattle.runner.specs.declared.calls.Record.{Record}
 use Rattle.runner.proofs.calls.Record as record-type
+use Rattle.recovery.specs.Arguments.{Tables}
+use Rattle.runner.specs.declared.calls.Record.{Record}
 
 -- An answer is a value or a number.
 abbrev parts : {A : Type 0} → Answer A → A ⊎ ℕ
@@ -64,9 +63,6 @@ telling-back (at-end b) = refl
 pub unit-answer-set : IsSet (Answer (Unit {0}))
 unit-answer-set = answer-set codedUnit
 
-pub states-answer-set : IsSet (Answer States)
-states-answer-set = answer-set (states-type.the-row .coded)
-
 pub bool-answer-set : IsSet (Answer Bool)
 bool-answer-set = answer-set codedBool
 
@@ -77,11 +73,13 @@ verdict-answer-set =
 pub place-set : IsSet Place
 place-set = coded-set (place-type.the-row .coded)
 
-pub states-set : IsSet States
-states-set = coded-set (states-type.the-row .coded)
-
 pub told-answer-set : IsSet (Answer Telling)
 told-answer-set = answer-set (codedVia (coded⊎ codedℕ codedBool) actionOrGoal (λ x y p. sym (telling-back x) ∙ ap telling p ∙ telling-back y))
 
 pub record-set : IsSet Record
 record-set = coded-set (record-type.the-row .coded)
+
+pub tables-set : IsSet Tables
+tables-set =
+    coded-set (codedVia (coded× (codedList codedℕ) (coded× (codedList codedℕ) (codedList codedℕ))) (λ (t : Tables). (t .heads, (t .nodes, t .sets)))
+    (λ x y e i. record { heads = e i .0; nodes = e i .1 .0; sets = e i .1 .1 }))

@@ -236,7 +236,8 @@ accepted-passed bytes sheet e = record {
     none-of : {a : Action} {r : ℕ} → List·Memᴰ a (sheet .actions) → List·Memᴰ r (each a) → ⊥
     none-of i m = none (Memᴰ·append-right (padding ++ unless (hasStart (states sheet) (sheet .start)) 13) (mem-flat each (sheet .actions) i m))
 
--- Of a change only the test behind 14 can fail, since its reply 0 is true in every state; and of a probe only the test behind 15, since it leaves each state as it is.
+-- Of a change only the test that refuses with 14 can fail, since its reply 0 is true in every state; and of a probe only the test that refuses with 15, since it leaves each
+-- state as it is.
 module _ (space : List ℕ) where
   pub change-faults : (f : Objective) → actionFaults space (change f) ≡ unless (leadsOn space (truth f)) 14
   unfolding actionFaults hasReply moves replyHolds replyCount exists upFrom unless

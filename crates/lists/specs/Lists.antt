@@ -64,3 +64,8 @@ Before (x ∷ xs) (y ∷ ys) = (x < y) ⊎ ((x ≡ y) × Before xs ys)
 unfoldable pub write : (memory : List ℕ) (i : ℕ) (numbers : List ℕ) → List ℕ
 write memory i [] = memory
 write memory i (x ∷ xs) = write (set memory i x) (i + 1) xs
+
+-- Numbers below a bound.
+unfoldable pub AllUnder : (bound : ℕ) → List ℕ → Type 0
+AllUnder bound [] = Unit {0}
+AllUnder bound (x ∷ xs) = (x < bound) × AllUnder bound xs

@@ -14,7 +14,9 @@ use mir.ValLaws.{ofZ-fits, toZ-ofZ}
 use borrow.Author.Tests.{lt-ltb, le-ltb}
 use Rattle.libc.specs.Io.{Moved}
 use Rattle.lists.specs.Lists.{if_then_else_, write}
-use Rattle.semantics.specs.Printing.{printed}
+use Rattle.semantics.specs.Printing.{mostLines, printed}
+use Rattle.routine.proofs.WriteLaws.{write-length}
+use Rattle.printing.proofs.LineLaws.{lines-back}
 use Rattle.planverify.specs.declared.Input.{Input}
 use Rattle.planverify.specs.declared.Next.{Next}
 use Rattle.planverify.specs.Input.{afterRead, Within, linesFor}
@@ -140,3 +142,9 @@ unfolding linesFor write
 lines-failed i old bytes e =
     let h : _ ≡ linesFor i bytes = sym (ap (λ (j : Input). linesFor j bytes) e) in
     (ap length h, ap (write old 0) h)
+
+-- Lines that were printed into an array of their room are its first bytes.
+pub lines-first : (n : ℕ) (out lines after : List ℕ) → n ≡ length lines → after ≡ write out 0 lines → n ≤ mostLines → length out ≡ mostLines → (take n after ≡ lines) × (n ≤ length after)
+lines-first n out lines after e w l k =
+    let fit : length lines ≤ length out = omega (arith, e, l, k) in
+    ((λ i. take (e i) (w i)) ∙ lines-back out lines fit, omega (arith, l, k, ap length w, write-length out 0 lines))

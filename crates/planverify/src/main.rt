@@ -6,7 +6,7 @@ use libc::STDOUT_FILENO;
 use printing::LINES;
 ghost use mathlib.Core.Path.{_≡_};
 ghost use Prim.Native.Nat.{_≤_, _<_, _-_};
-ghost use lib.ListN.{length};
+ghost use lib.ListN.{length, take};
 ghost use Rattle.libc.specs.Io.{Moved};
 ghost use Rattle.lists.specs.Lists.{write};
 ghost use Rattle.format.specs.Format.{mostBytes};
@@ -78,6 +78,35 @@ fn lines_for(input: Input, sheet: &[u8], out: &mut [u8; LINES]) -> usize
     }
 }
 
+// What was read, and the lines for it: the first `length` bytes.
+struct Response {
+    input: Input,
+    lines: [u8; LINES],
+    length: usize,
+}
+
+// Reads standard input into `sheet` and makes the lines for it.
+fn respond(sheet: &mut [u8]) -> Response
+    requires { ⌜ mostBytes < length (now sheet) ⌝ }
+    ensures { λ r. ⌜ (take (r .length) (r .lines) ≡ linesFor (r .input) (now (sheet .exit))) × (r .length ≤ length (r .lines)) ⌝ }
+{
+    let input = read_input(sheet);
+    let mut lines = [0u8; LINES];
+    let length = lines_for(input, sheet, &mut lines);
+    Response {
+        input: input,
+        lines: lines,
+        length: length,
+    }
+}
+
+// Hands bytes to standard output, and no others than the lines for the input that stands in `sheet`: `main` writes there by this alone.
+fn put_lines(input: Input, sheet: &[u8], lines: &[u8]) -> bool
+    requires { ⌜ now lines ≡ linesFor input (now sheet) ⌝ }
+{
+    io::write_all(STDOUT_FILENO, lines)
+}
+
 // Nothing is left to do where standard error can't be written.
 fn tell(message: &[u8]) {
     io::write_all(STDERR_FILENO, message);
@@ -85,13 +114,13 @@ fn tell(message: &[u8]) {
 
 fn main() {
     let mut sheet = [0u8; MOST];
-    let input = read_input(&mut sheet);
-    let mut out = [0u8; LINES];
-    let n = lines_for(input, &sheet, &mut out);
+    let response = respond(&mut sheet);
+    let input = response.input;
+    let lines = response.lines;
     if let Input::Failed = input {
         tell(b"planverify: the input could not be read\n");
     }
-    if !io::write_all(STDOUT_FILENO, &out[..n]) {
+    if !put_lines(input, &sheet, &lines[..response.length]) {
         tell(b"planverify: the answer could not be written\n");
     }
 }

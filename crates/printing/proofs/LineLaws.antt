@@ -165,3 +165,16 @@ put-refused m u trace r k x e h = subst (λ (j : ℕ). Put m u 0 r (behindWord r
 pub printable-invalid : (v : Verdict) (c l : ℕ) → v ≡ Verdict.Invalid c l → Printable v → l ≤ 64
 unfolding Printable
 printable-invalid v c l e h = rw e at h
+
+-- Behind the first number the others are written behind the first place.
+write-behind : (x : ℕ) (xs : List ℕ) (i : ℕ) (ys : List ℕ) → write (x ∷ xs) (suc i) ys ≡ x ∷ write xs i ys
+unfolding write
+write-behind x xs i [] = refl
+write-behind x xs i (y ∷ ys) = ap (λ (j : ℕ). write (x ∷ set xs i y) j ys) (let e : suc i + 1 ≡ suc (i + 1) = omega arith in e) ∙ write-behind x (set xs i y) (i + 1) ys
+
+-- So lines that were written are read back.
+pub lines-back : (out lines : List ℕ) → length lines ≤ length out → take (length lines) (write out 0 lines) ≡ lines
+unfolding write
+lines-back out [] h = refl
+lines-back [] (y ∷ ys) h = absurd (omega arith)
+lines-back (x ∷ xs) (y ∷ ys) h = ap (take (suc (length ys))) (write-behind y xs 0 ys) ∙ ap (λ (zs : List ℕ). y ∷ zs) (lines-back xs ys (omega arith))

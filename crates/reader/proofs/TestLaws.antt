@@ -1,4 +1,4 @@
--- Laws of actions as the code reads and tests them: the replies of a probe, lists of actions, and the tests behind 14 and 15. Assumes nothing.
+-- Laws of actions as the code reads and tests them: the replies of a probe, lists of actions, and the tests that refuse with 14 and 15. Assumes nothing.
 use Prim.Native.Nat.{ℕ, zero, suc, _+_, _-_, _≤_, _<_}
 use mathlib.Core.Path.{_≡_, refl, sym, ap, _∙_}
 use mathlib.Core.Logic.{_⊎_, ⊎-elim}

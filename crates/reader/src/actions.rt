@@ -1,4 +1,4 @@
-// Actions: reading them, and the tests behind 14 and 15.
+// Actions: reading them, and the tests that refuse with 14 and 15.
 use crate::formula::Evaluated;
 use crate::formula::View;
 use crate::formula::Walked;
@@ -123,7 +123,7 @@ fn leads_on(bytes: &[u8], at: usize, n: usize, space: States) -> bool
     true
 }
 
-// The test behind 14 on the theory at a position: where it ends, or the refusal.
+// Reads and tests the theory at a position: where it ends, or the refusal, 14 if some state has no next state.
 fn test_theory(bytes: &[u8], at: usize, n: usize, space: States) -> Walked
     requires { ⌜ length (now bytes) ≤ mostBytes ⌝ }
     ensures { λ r. ⌜ passedTo r ≡ tested (λ f. unless (leadsOn (members space) (truth f)) 14) (theoryOver n (now (bytes .entry)) at) ⌝ }
@@ -139,7 +139,7 @@ fn test_theory(bytes: &[u8], at: usize, n: usize, space: States) -> Walked
     }
 }
 
-// The test behind 15 on the replies at a position: where they end, or the refusal.
+// Reads and tests the replies at a position: where they end, or the refusal, 15 if some state has no reply.
 fn test_replies(bytes: &[u8], at: usize, n: usize, space: States) -> Walked
     requires { ⌜ length (now bytes) ≤ mostBytes ⌝ }
     ensures { λ r. ⌜ passedTo r ≡ tested (λ fs. unless (hasReply (members space) (probe fs)) 15) (repliesOver n (now (bytes .entry)) at) ⌝ }

@@ -80,7 +80,7 @@ fn read_body(bytes: &[u8], h: Header) -> Evaluated
     }
 }
 
-// The tests behind the fields: the padding, a start state, and the tests of the actions.
+// The tests after the fields: the padding, a start state, and the tests of the actions.
 fn test_body(bytes: &[u8], h: Header, start: States, end: usize) -> Acceptance
     requires { ⌜ (length (now bytes) ≤ mostBytes) × (h .facts ≤ mostFacts) × (h .space ≡ setOf (inSpace (h .facts))) ⌝ }
     ensures { λ r. ⌜ ((sheet : Sheet) → body (headerOf h) (now (bytes .entry)) (h .at) ≡ got sheet end → start ≡ startStates sheet → answerOf r ≡ withoutValue (decided (faults actionFaults (now (bytes .entry)) end sheet) sheet)) ⌝ }

@@ -31,7 +31,7 @@ refused-unchanged made r k (gives x) e = let z : _≡_ {A = ℕ} 0 1 = cc in abs
 refused-unchanged made r k (refused m) e = refl
 
 -- What follows on an acceptance is accepted where both are.
-on-accepted : {A B : Type 0} (f : A → Answer B) (a : Answer A) (y : B) → onAccepted f a ≡ gives y → (x : A) × (a ≡ gives x) × (f x ≡ gives y)
+pub on-accepted : {A B : Type 0} (f : A → Answer B) (a : Answer A) (y : B) → onAccepted f a ≡ gives y → (x : A) × (a ≡ gives x) × (f x ≡ gives y)
 unfolding onAccepted
 on-accepted f (gives x) y e = (x, refl, e)
 on-accepted f (refused k) y e = let z : _≡_ {A = ℕ} 0 1 = cc in absurd (omega arith)

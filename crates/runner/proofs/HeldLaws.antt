@@ -9,7 +9,7 @@ use lib.Seq.{take-append-seam, drop-append-seam}
 use Rattle.lists.specs.Lists.{if_then_else_, every}
 use Rattle.lists.proofs.ListLaws.{and-both}
 use Rattle.format.specs.Syntax.{Sheet}
-use Rattle.format.specs.Format.{gives, refused, onAccepted, reading, mostBytes, mostActs, givenOr}
+use Rattle.format.specs.Format.{Answer, gives, refused, onAccepted, reading, mostBytes, mostActs, givenOr}
 use Rattle.format.proofs.SheetLaws.{accepted-length}
 use Rattle.semantics.specs.Replies.{told, reported, RepliesOfRun, areOfRun}
 use Rattle.semantics.proofs.ReplyLaws.{of-run, run-of}
@@ -17,7 +17,7 @@ use Rattle.semantics.proofs.AcceptedLaws.{replies-most}
 use Rattle.runner.specs.declared.calls.Record.{Record}
 use Rattle.runner.specs.Records.{padded, areZero, recordOf, heldSheet, heldReplies, isPadded, sheetIn, areReplies, heldBy, nextOn, reportOn, recordAfter}
 use Rattle.runner.proofs.RecordLaws.{rest-decides}
-use Rattle.runner.proofs.CallLaws.{sheet-padded, held-is, held-parts, before-length, padded-back}
+use Rattle.runner.proofs.CallLaws.{on-accepted, sheet-padded, held-is, held-parts, before-length, padded-back}
 
 -- Zeros are zeros.
 zeros-zero : (n : ℕ) → areZero (replicate n 0) ≡ true
@@ -95,3 +95,14 @@ module _ (r : Record) (sheet-sized : length (r .sheet) ≡ mostBytes) (replies-s
         (heldSheet r, heldReplies r, λ i. record { sheet = bytes i; len = len i; replies = replies i; count = count i }, p .1, of-run sheet (heldReplies r) (p .3)),
     λ q. ap heldBy (q .2) ∙ held (q .0) sheet (q .3) (q .1) (q .4),
   )
+
+-- A report leaves the memory of the sheet as it is, accepted or not.
+pub kept-sheet : (r : Record) → length (r .sheet) ≡ mostBytes → (reply : ℕ) → r .sheet ≡ recordAfter r reply .sheet
+unfolding recordAfter givenOr recordOf heldSheet reportOn
+kept-sheet r sized reply = go (reportOn r reply) refl
+  where
+    go : (a : Answer (List ℕ)) → reportOn r reply ≡ a → r .sheet ≡ givenOr r (recordOf (heldSheet r)) a .sheet
+    go (refused k) e = refl
+    go (gives rs) e =
+        let h = on-accepted (λ (sheet : Sheet). reported sheet (heldReplies r) reply) (heldBy r) rs e in
+        sym (padded-back mostBytes (r .sheet) (r .len) sized (held-parts r (h .0) (h .1) .0))

@@ -4,7 +4,5 @@ pub mod StandLaws
 pub mod CallLaws
 pub mod WalkLaws
 pub mod HeldLaws
-pub mod AnswerLaws
-pub mod GivenLaws
 pub mod ListLaws
 pub mod Promises

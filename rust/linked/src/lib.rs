@@ -1,7 +1,7 @@
 //! The proved library's functions, wrapped for Rust.
 //!
 //! Nothing checks these declarations against the Rattle source
-//! (`crates/exports/src/lib.rt`), so they are few and plain.
+//! (`crates/recovery/src/lib.rt`), so they are few and plain.
 
 pub mod plain;
 pub mod straight;
@@ -52,6 +52,8 @@ extern "C" {
         set: &Words,
         at: usize,
     ) -> u64;
+
+    fn recovery_known(sets: &[u64; SET_WORDS], set: &Words, k: usize) -> u8;
 
     fn recovery_verify(
         bytes: *const u8,
@@ -324,6 +326,16 @@ pub fn settle(tables: &Tables, set: &Words, at: usize) -> Place {
     // SAFETY: as above.
     let number = unsafe { recovery_settle(&tables.nodes, &tables.sets, set, at) };
     Place::of_number(number)
+}
+
+/// Whether every state of the set is in set k of the tables.
+pub fn known(tables: &Tables, set: &Words, k: usize) -> bool {
+    // SAFETY: as above.
+    match unsafe { recovery_known(&tables.sets, set, k) } {
+        0 => false,
+        1 => true,
+        number => panic!("neither yes nor no: {number}"),
+    }
 }
 
 /// The verdict, or the number of the refusal. The memory of an invalid sheet

@@ -3,10 +3,10 @@
 
 use std::collections::HashMap;
 
-use recovery::sheet::{Action, Epistemic, Objective, Program, Sheet, MAX_ACTION_NODES, MAX_TRACE};
-use recovery::states::{states, State};
-use recovery::step::start_states;
-use recovery::truth::{holds, holds_between};
+use reference::sheet::{Action, Epistemic, Objective, Program, Sheet, MAX_ACTION_NODES, MAX_TRACE};
+use reference::states::{states, State};
+use reference::step::start_states;
+use reference::truth::{holds, holds_between};
 
 use crate::{Place, Tables, Verdict, Words};
 

@@ -1,8 +1,8 @@
 //! Routines without a branch, with as many histories as one likes: what the tests
 //! and the benchmark count by arithmetic.
 
-use recovery::edges;
-use recovery::sheet::{Action, Objective, Program, Sheet};
+use reference::edges;
+use reference::sheet::{Action, Objective, Program, Sheet};
 
 /// The actions one after the other.
 pub fn sequence(actions: &[u8]) -> Program {

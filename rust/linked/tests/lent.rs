@@ -10,10 +10,10 @@ use linked::{
     check, check_in, load_in, next_in, prepare, report_in, settle, verify_words, verify_words_in,
     Place, Record, Tables, Verdict, Words, MEMO_WORDS, REPLIES, SHEET,
 };
-use recovery::check::Checked;
-use recovery::random::Random;
-use recovery::sheet::MAX_TRACE;
-use recovery::verify::Answer;
+use reference::check::Checked;
+use reference::random::Random;
+use reference::sheet::MAX_TRACE;
+use reference::verify::Answer;
 
 /// Memory for a trace, of too few bytes, just enough and more.
 const LENGTHS: [usize; 3] = [MAX_TRACE - 1, MAX_TRACE, 200];
@@ -120,7 +120,7 @@ fn traces_in_lent_tables() {
         ] {
             let mut made = tables.clone();
             prepare(&case.bytes, &mut made, &mut [0; 4]);
-            let expected = match recovery::check::check(&case.bytes, trace) {
+            let expected = match reference::check::check(&case.bytes, trace) {
                 Checked::Yes => Ok(true),
                 Checked::No => Ok(false),
                 Checked::Refused(refusal) => Err(refusal.number()),

@@ -17,8 +17,8 @@ use std::thread;
 use std::time::Duration;
 
 use common::{around_a_million, counted_lines, longest, sheets, Case};
-use recovery::random::Random;
-use recovery::sheet::MAX_BYTES;
+use reference::random::Random;
+use reference::sheet::MAX_BYTES;
 
 /// Processes at a time.
 const THREADS: usize = 4;

@@ -6,9 +6,9 @@ use std::collections::{BTreeMap, BTreeSet};
 use std::sync::LazyLock;
 
 use linked::read;
-use recovery::edges::edges;
-use recovery::encode::{encode, set_bit};
-use recovery::random::{damaged, good, Random, Size};
+use reference::edges::edges;
+use reference::encode::{encode, set_bit};
+use reference::random::{damaged, good, Random, Size};
 
 static GOOD: LazyLock<Comparison> = LazyLock::new(compare_good);
 static DAMAGED: LazyLock<Comparison> = LazyLock::new(compare_damaged);
@@ -24,7 +24,7 @@ struct Comparison {
 
 impl Comparison {
     fn add(&mut self, bytes: Vec<u8>) {
-        let number = recovery::read::read(&bytes).map_or_else(|refusal| refusal.number(), |_| 0);
+        let number = reference::read::read(&bytes).map_or_else(|refusal| refusal.number(), |_| 0);
         assert_eq!(read(&bytes), number, "sheet {bytes:02x?}");
         self.answers.insert(bytes, number);
     }

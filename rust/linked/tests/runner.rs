@@ -9,16 +9,16 @@ use std::collections::BTreeMap;
 
 use common::{bytes, choices, longest, many, FEW};
 use linked::{Tables, Verdict, REPLIES, SHEET};
-use recovery::edges::edges;
-use recovery::encode::encode;
-use recovery::execute::Execution;
-use recovery::random::{damaged, good, Random, Size};
-use recovery::read::read;
-use recovery::records::{some_record, DAMAGES};
-use recovery::refusal::Refusal;
-use recovery::runner::{Record, Told};
-use recovery::sheet::{Action, Program, Sheet, MAX_TRACE};
-use recovery::step::{gather, keep, start_states};
+use reference::edges::edges;
+use reference::encode::encode;
+use reference::execute::Execution;
+use reference::random::{damaged, good, Random, Size};
+use reference::read::read;
+use reference::records::{some_record, DAMAGES};
+use reference::refusal::Refusal;
+use reference::runner::{Record, Told};
+use reference::sheet::{Action, Program, Sheet, MAX_TRACE};
+use reference::step::{gather, keep, start_states};
 
 /// What "Next" leaves where it refuses.
 const BEFORE: [usize; 2] = [usize::MAX, 12_345];

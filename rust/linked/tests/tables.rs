@@ -1,18 +1,20 @@
-//! The proved tables, steps and places against the Rust implementation, and
-//! against a model of their definitions on memory with any numbers.
+//! The proved tables, steps, places and known formulas against the Rust
+//! implementation, and against a model of their definitions on memory with any
+//! numbers.
 
 use std::collections::{BTreeMap, BTreeSet, VecDeque};
 use std::sync::LazyLock;
 
-use linked::{plain, prepare, settle, step, Place, Tables, Words};
-use recovery::edges::edges;
-use recovery::encode::encode;
-use recovery::execute::Execution;
-use recovery::random::{damaged, good, Random, Size};
-use recovery::read::read;
-use recovery::sheet::{Action, Sheet};
-use recovery::states::{State, StateSet};
-use recovery::step::{gather, keep, start_states};
+use linked::{known, plain, prepare, settle, step, Place, Tables, Words};
+use reference::edges::edges;
+use reference::encode::encode;
+use reference::execute::Execution;
+use reference::random::{damaged, good, Random, Size};
+use reference::read::read;
+use reference::sheet::{Action, Epistemic, Program, Sheet};
+use reference::states::{State, StateSet};
+use reference::step::{gather, keep, start_states};
+use reference::truth::holds_knowing;
 
 /// Different accepted sheets of all sizes and at the limits, with their bytes.
 static ACCEPTED: LazyLock<BTreeMap<Vec<u8>, Sheet>> = LazyLock::new(|| {
@@ -266,6 +268,75 @@ fn full_histories() {
     assert!(compared.longest >= 20, "{compared:?}");
 }
 
+/// The formulas that a sheet asks to be known, or not, in reading order.
+fn asked(sheet: &Sheet) -> Vec<Epistemic> {
+    fn of_formula(formula: &Epistemic, atoms: &mut Vec<Epistemic>) {
+        match formula {
+            Epistemic::Known(part) | Epistemic::NotKnown(part) => {
+                atoms.push(Epistemic::Known(part.clone()))
+            }
+            Epistemic::And(left, right) | Epistemic::Or(left, right) => {
+                of_formula(left, atoms);
+                of_formula(right, atoms);
+            }
+        }
+    }
+    fn of_program(program: &Program, atoms: &mut Vec<Epistemic>) {
+        match program {
+            Program::End => {}
+            Program::Act { rest, .. } => of_program(rest, atoms),
+            Program::Branch {
+                condition,
+                then,
+                otherwise,
+                rest,
+            } => {
+                of_formula(condition, atoms);
+                for part in [then, otherwise, rest] {
+                    of_program(part, atoms);
+                }
+            }
+        }
+    }
+    let mut atoms = Vec::new();
+    of_formula(&sheet.goal, &mut atoms);
+    of_program(&sheet.program, &mut atoms);
+    atoms
+}
+
+/// Each formula that the sheet asks for, by the set that its node names, at each
+/// point of a random history.
+#[test]
+fn known_formulas() {
+    let mut compared = Compared::default();
+    let mut random = Random::new(29);
+    let mut counts = [0; 2];
+    for (bytes, sheet) in ACCEPTED.iter() {
+        let (tables, mut point) = compared.start(bytes, sheet);
+        let sets = tables.nodes.chunks_exact(3).filter(|node| node[0] == 4);
+        let atoms: Vec<(Epistemic, usize)> = asked(sheet)
+            .into_iter()
+            .zip(sets.map(|node| usize::from(node[1])))
+            .collect();
+        let mut execution = Execution::new(sheet);
+        loop {
+            for (formula, k) in &atoms {
+                let expected = holds_knowing(formula, &point.possible);
+                let found = known(&tables, &point.set, *k);
+                assert_eq!(found, expected, "{formula:?} after {:?}", point.replies);
+                counts[usize::from(expected)] += 1;
+            }
+            let Some((node, action)) = compared.place(&tables, &point, &execution) else {
+                break;
+            };
+            let points = compared.steps(sheet, &tables, &point, node, action);
+            point = random.pick(&points).clone();
+            execution.take(*point.replies.last().unwrap()).unwrap();
+        }
+    }
+    assert!(counts.iter().all(|&count| count >= 10_000), "{counts:?}");
+}
+
 /// The node from which on the goal stands.
 const GOAL: usize = 1;
 
@@ -279,7 +350,7 @@ mod machine {
     const LEVELS: usize = 16;
     const SETS: usize = 10_240;
 
-    fn set_at(tables: &Tables, k: usize) -> Words {
+    pub fn set_at(tables: &Tables, k: usize) -> Words {
         if k >= SETS {
             return [0; 4];
         }
@@ -335,7 +406,7 @@ mod machine {
         [0, 1, 2].map(|i| usize::from(tables.nodes[3 * node + i]))
     }
 
-    fn known_by(tables: &Tables, set: &Words, k: usize) -> bool {
+    pub fn known_by(tables: &Tables, set: &Words, k: usize) -> bool {
         let told = set_at(tables, k);
         (0..256).all(|state| !member(set, state) || member(&told, state))
     }
@@ -647,4 +718,36 @@ fn places_on_any_memory() {
     ];
     let rare = [&rare[..], &on_the_way.deepest, &on_the_way.formula_ends].concat();
     assert!(rare.iter().all(|&count| count >= 100), "{on_the_way:?}");
+}
+
+#[test]
+fn known_on_any_memory() {
+    let mut random = Random::new(30);
+    let (mut yes, mut one_denies, mut no, mut past) = (0, 0, 0, 0);
+    for _ in 0..200 {
+        let tables = random_tables(&mut random);
+        for _ in 0..40 {
+            let k = random_index(&mut random, 10_240);
+            let told = machine::set_at(&tables, k);
+            let any = random_set(&mut random);
+            let mut set = [0, 1, 2, 3].map(|i| told[i] & any[i]);
+            let (of_told, one_more) = (random.chance(3, 4), random.chance(1, 2));
+            if !of_told {
+                set = any;
+            } else if one_more {
+                let state = random.below(256);
+                set[state / 64] |= 1 << (state % 64);
+            }
+            let expected = machine::known_by(&tables, &set, k);
+            assert_eq!(known(&tables, &set, k), expected, "set {k} {set:x?}");
+            match (expected, of_told) {
+                (true, _) => yes += usize::from(set != [0; 4]),
+                (false, true) => one_denies += 1,
+                (false, false) => no += 1,
+            }
+            past += usize::from(k >= 10_240);
+        }
+    }
+    let counts = [yes, one_denies, no, past];
+    assert!(counts.iter().all(|&count| count >= 500), "{counts:?}");
 }

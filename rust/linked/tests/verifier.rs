@@ -13,16 +13,16 @@ use common::{
 use linked::plain::{self, Counts};
 use linked::straight::{counted, histories, reply_counts, seldom_told, straight};
 use linked::{check, print, verify, verify_words, Place, Tables, Verdict, Words, LINES};
-use recovery::check::Checked;
-use recovery::encode::encode;
-use recovery::execute::Execution;
-use recovery::print::lines;
-use recovery::random::Random;
-use recovery::refusal::Refusal;
-use recovery::sheet::{Epistemic, Sheet, MAX_TRACE};
-use recovery::states::{states, State};
-use recovery::step::{effect, replies, start_states, step};
-use recovery::verify::Answer;
+use reference::check::Checked;
+use reference::encode::encode;
+use reference::execute::Execution;
+use reference::print::lines;
+use reference::random::Random;
+use reference::refusal::Refusal;
+use reference::sheet::{Epistemic, Sheet, MAX_TRACE};
+use reference::states::{states, State};
+use reference::step::{effect, replies, start_states, step};
+use reference::verify::Answer;
 
 static CASES: LazyLock<Vec<Case>> =
     LazyLock::new(|| sheets(41).into_iter().map(Case::new).collect());
@@ -77,7 +77,7 @@ fn compare(case: &Case, budget: u32, length: usize, random: &mut Random) -> Answ
 
 /// The same by the sheet's tree, however many histories there are.
 fn compare_by_tree(sheet: &[u8], budget: u32, random: &mut Random) -> Answer {
-    let expected = |memory: &mut [u8]| recovery::verify::verify(sheet, budget, memory);
+    let expected = |memory: &mut [u8]| reference::verify::verify(sheet, budget, memory);
     compare_with(expected, sheet, budget, MAX_TRACE, random)
 }
 
@@ -184,7 +184,7 @@ fn verdicts_over_plain_tables() {
         let start = plain::prepare(sheet, &mut tables);
         let before = bytes(&mut random, MAX_TRACE);
         let mut expected = before.clone();
-        let answer = recovery::verify::verify(&case.bytes, FEW, &mut expected);
+        let answer = reference::verify::verify(&case.bytes, FEW, &mut expected);
         let [mut all, mut remembering, mut counting] = [(); 3].map(|()| before.clone());
         let (verdict, counts) = plain::verify_counting(&tables, &start, FEW, &mut counting);
         let verdicts = [
@@ -422,7 +422,7 @@ fn failures_behind_remembered_places() {
         let (facts, row) = *random.pick(&[(2, 8), (2, 8), (2, 8), (3, 10), (4, 14), (6, 16)]);
         let sheet = repeating(&mut random, facts, row);
         let bytes = encode(&sheet);
-        if recovery::read::read(&bytes).is_err() {
+        if reference::read::read(&bytes).is_err() {
             continue;
         }
         let start = plain::prepare(&sheet, &mut tables);
@@ -596,7 +596,7 @@ fn least_traces_are_not_greedy() {
 
 /// Compares the checkers, and gives their answer.
 fn checked(sheet: &[u8], trace: &[u8]) -> Checked {
-    let expected = recovery::check::check(sheet, trace);
+    let expected = reference::check::check(sheet, trace);
     let answer = match expected {
         Checked::Yes => Ok(true),
         Checked::No => Ok(false),

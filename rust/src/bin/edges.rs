@@ -3,8 +3,8 @@
 
 use std::io::{self, BufWriter, Write};
 
-use recovery::edges::edges;
-use recovery::read::read;
+use reference::edges::edges;
+use reference::read::read;
 
 fn main() -> io::Result<()> {
     let mut output = BufWriter::new(io::stdout().lock());

@@ -20,13 +20,13 @@ use std::env;
 use std::io::{self, BufWriter, Write};
 use std::process::ExitCode;
 
-use recovery::random::Random;
-use recovery::read::read;
-use recovery::records::{fullest, some_record, DAMAGES};
-use recovery::refusal::Refusal;
-use recovery::runner::{Record, Told};
-use recovery::runs::{Listing, Run};
-use recovery::sheet::{Sheet, MAX_ACTION_NODES};
+use reference::random::Random;
+use reference::read::read;
+use reference::records::{fullest, some_record, DAMAGES};
+use reference::refusal::Refusal;
+use reference::runner::{Record, Told};
+use reference::runs::{Listing, Run};
+use reference::sheet::{Sheet, MAX_ACTION_NODES};
 
 /// Limits that keep the listing of runs cheap, even for a slow evaluator.
 const MOST_RUNS: usize = 300;

@@ -20,16 +20,16 @@ use std::env;
 use std::io::{self, BufWriter, Write};
 use std::process::ExitCode;
 
-use recovery::check::{check, Checked};
-use recovery::encode::encode;
-use recovery::print::lines;
-use recovery::random::{damaged, good, Random, Size};
-use recovery::read::read;
-use recovery::refusal::Refusal;
-use recovery::runner::{Record, Told};
-use recovery::runs::{Listing, Run};
-use recovery::sheet::MAX_TRACE;
-use recovery::verify::{verify, Answer};
+use reference::check::{check, Checked};
+use reference::encode::encode;
+use reference::print::lines;
+use reference::random::{damaged, good, Random, Size};
+use reference::read::read;
+use reference::refusal::Refusal;
+use reference::runner::{Record, Told};
+use reference::runs::{Listing, Run};
+use reference::sheet::MAX_TRACE;
+use reference::verify::{verify, Answer};
 
 /// Limits that keep the listing of runs cheap, even for a slow evaluator.
 const MOST_RUNS: usize = 1000;

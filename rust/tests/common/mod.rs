@@ -1,8 +1,8 @@
 //! Helpers shared by the tests; no single test file uses all of them.
 #![allow(dead_code)]
 
-use recovery::sheet::{Action, Epistemic, Objective, Program, Sheet, MAX_TRACE};
-use recovery::verify::{verify, Answer};
+use reference::sheet::{Action, Epistemic, Objective, Program, Sheet, MAX_TRACE};
+use reference::verify::{verify, Answer};
 
 /// The bytes of hexadecimal digits; white space is skipped.
 pub fn unhex(text: &str) -> Vec<u8> {

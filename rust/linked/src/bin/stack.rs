@@ -11,9 +11,9 @@
 use std::arch::asm;
 
 use linked::{Record, Tables, Verdict, Words, LINES, MEMO_WORDS, REPLIES, SHEET};
-use recovery::encode::encode;
-use recovery::read::read;
-use recovery::sheet::{
+use reference::encode::encode;
+use reference::read::read;
+use reference::sheet::{
     Action, Epistemic, Objective, Program, Sheet, MAX_ACTION_NODES, MAX_BRANCH_NODES, MAX_DEPTH,
     MAX_TRACE,
 };
@@ -61,6 +61,7 @@ struct Needs {
     prepare: Need,
     step: Need,
     settle: Need,
+    known: Need,
     print: Need,
     verify: [Need; 2],
     check: [Need; 2],
@@ -112,6 +113,10 @@ impl Needs {
                 .add(name, &mut || place = Some(linked::settle(tables, &set, 0)));
             assert!(place.is_some(), "{name}");
         }
+        let mut known = false;
+        self.known
+            .add(name, &mut || known = linked::known(tables, &[0; 4], 0));
+        assert!(known, "{name}");
     }
 
     fn print(&self) {
@@ -119,6 +124,7 @@ impl Needs {
         self.prepare.print("recovery_prepare");
         self.step.print("recovery_step");
         self.settle.print("recovery_settle");
+        self.known.print("recovery_known");
         self.print.print("recovery_print");
         for (name, forms) in [
             ("recovery_verify", &self.verify),

@@ -6,14 +6,14 @@ use std::collections::BTreeSet;
 
 use linked::straight::{counted, histories, reply_counts, sequence, straight};
 use linked::{plain, Tables, Verdict};
-use recovery::edges::{self, edges};
-use recovery::encode::encode;
-use recovery::print::lines;
-use recovery::random::{damaged, good, Random, Size};
-use recovery::read::read;
-use recovery::records::wide;
-use recovery::sheet::{Action, Epistemic, Objective, Program, Sheet, MAX_BYTES, MAX_TRACE};
-use recovery::verify::{verify, Answer};
+use reference::edges::{self, edges};
+use reference::encode::encode;
+use reference::print::lines;
+use reference::random::{damaged, good, Random, Size};
+use reference::read::read;
+use reference::records::wide;
+use reference::sheet::{Action, Epistemic, Objective, Program, Sheet, MAX_BYTES, MAX_TRACE};
+use reference::verify::{verify, Answer};
 
 /// The budget of `planverify`.
 pub const BUDGET: u32 = 1_000_000;
@@ -39,7 +39,7 @@ impl Case {
     }
 
     /// What the proved verifier is compared with. Up to `FEW` histories or a budget
-    /// of `FEW` that is `recovery::verify`, by the sheet's tree. Beyond, where the
+    /// of `FEW` that is `reference::verify`, by the sheet's tree. Beyond, where the
     /// tree may take long, it is `plain::verify`, over the same kind of tables as the
     /// proved one, but through every history. There `many_histories_by_the_tree` and
     /// `counts_around_a_million` in `verifier.rs` compare the proved verifier with

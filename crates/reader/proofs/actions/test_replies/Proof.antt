@@ -1,4 +1,4 @@
--- `reader::actions::test_replies` meets its contract: where the replies end, and the test behind 15. Assumes nothing.
+-- `reader::actions::test_replies` meets its contract: where the replies end, and the test that refuses with 15. Assumes nothing.
 use mathlib.Core.Path.{sym, ap, _∙_}
 use denote.Ref.{now}
 use Rattle.states.specs.Sets.{members}

@@ -1,4 +1,4 @@
--- `reader::actions::test_theory` meets its contract: where the theory ends, and the test behind 14. Assumes nothing.
+-- `reader::actions::test_theory` meets its contract: where the theory ends, and the test that refuses with 14. Assumes nothing.
 use mathlib.Core.Path.{sym, ap, _∙_}
 use denote.Ref.{now}
 use Rattle.states.specs.Sets.{members}

@@ -5,8 +5,8 @@ use std::hint::black_box;
 
 use linked::straight::seldom_told;
 use linked::{plain, Tables, Verdict};
-use recovery::encode::encode;
-use recovery::sheet::{Epistemic, Objective, Sheet, MAX_TRACE};
+use reference::encode::encode;
+use reference::sheet::{Epistemic, Objective, Sheet, MAX_TRACE};
 
 use crate::picture::{page, Line};
 use crate::routines::{branching, Routine};

@@ -4,8 +4,8 @@
 use std::hint::black_box;
 
 use linked::{Tables, Verdict, MEMO_WORDS};
-use recovery::encode::encode;
-use recovery::sheet::MAX_TRACE;
+use reference::encode::encode;
+use reference::sheet::MAX_TRACE;
 
 use crate::routines::verified_sheets;
 use crate::{least, shown, Call, BUDGET};

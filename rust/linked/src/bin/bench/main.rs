@@ -23,9 +23,9 @@ use std::hint::black_box;
 use std::time::{Duration, Instant};
 
 use linked::{plain, Place, Tables};
-use recovery::encode::encode;
-use recovery::read::read;
-use recovery::runner::{Record, Told};
+use reference::encode::encode;
+use reference::read::read;
+use reference::runner::{Record, Told};
 
 use before::Before;
 use routines::verified_sheets;
@@ -165,7 +165,7 @@ const BEFORE: Option<Runner> = Some(Runner {
 const BEFORE: Option<Runner> = None;
 
 /// Loading, "Next" and "Report" of the proved runner beside the one of an earlier commit,
-/// if that is linked, and two in Rust: `recovery::runner`, which reads the sheet and
+/// if that is linked, and two in Rust: `reference::runner`, which reads the sheet and
 /// steps over its tree (data), and `plain::follow` over the tables that the proved
 /// `prepare` makes in its time. `load_in`, `next_in` and `report_in` are the proved ones
 /// in lent tables, which the earlier commit doesn't have: before is in its own.

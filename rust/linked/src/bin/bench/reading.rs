@@ -1,10 +1,10 @@
 //! The proved reader beside the one of an earlier commit, if that is linked, and
-//! `recovery::read::read`, which builds the sheet's tree and evaluates theories for
+//! `reference::read::read`, which builds the sheet's tree and evaluates theories for
 //! each state and next state, with short circuits.
 
 use std::hint::black_box;
 
-use recovery::read::read;
+use reference::read::read;
 
 use crate::sheets::read_sheets;
 use crate::{least, shown, Call};

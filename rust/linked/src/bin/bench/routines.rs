@@ -4,10 +4,10 @@ use std::cmp::Reverse;
 
 use linked::straight::{counted, seldom_told, sequence};
 use linked::Verdict;
-use recovery::encode::encode;
-use recovery::random::{good, Random, Size};
-use recovery::read::read;
-use recovery::sheet::{Action, Epistemic, Objective, Program, Sheet, MAX_ACTION_NODES, MAX_TRACE};
+use reference::encode::encode;
+use reference::random::{good, Random, Size};
+use reference::read::read;
+use reference::sheet::{Action, Epistemic, Objective, Program, Sheet, MAX_ACTION_NODES, MAX_TRACE};
 
 use crate::sheets::{goal_of_atoms, most};
 use crate::slowest::slowest_sheet;

@@ -1,9 +1,9 @@
 //! Sheets to read, and to make tables of.
 
-use recovery::encode::encode;
-use recovery::random::{good, Random, Size};
-use recovery::read::read;
-use recovery::sheet::{Action, Epistemic, Objective, Program, Sheet, MAX_BYTES};
+use reference::encode::encode;
+use reference::random::{good, Random, Size};
+use reference::read::read;
+use reference::sheet::{Action, Epistemic, Objective, Program, Sheet, MAX_BYTES};
 
 use crate::theories::{
     all, balanced, denied_early, news, not_last, only_last, parity, sevens, stays, stays_or_zero,

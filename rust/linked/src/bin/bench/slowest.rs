@@ -2,11 +2,11 @@
 //! different places, so that nothing that the search remembers helps, and a goal of
 //! as many atoms as then fit is tested at every end.
 
-use recovery::random::Random;
-use recovery::read::read;
-use recovery::sheet::{Action, Epistemic, Objective, Sheet};
-use recovery::states::State;
-use recovery::truth::holds;
+use reference::random::Random;
+use reference::read::read;
+use reference::sheet::{Action, Epistemic, Objective, Sheet};
+use reference::states::State;
+use reference::truth::holds;
 
 use linked::straight::sequence;
 

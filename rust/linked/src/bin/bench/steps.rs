@@ -4,12 +4,12 @@
 use std::hint::black_box;
 
 use linked::{plain, Place, Tables, Words};
-use recovery::encode::encode;
-use recovery::read::read;
-use recovery::sheet::{Action, Epistemic, Objective, Program, Sheet};
-use recovery::states::{State, StateSet};
-use recovery::step::{gather, keep};
-use recovery::truth::holds_knowing;
+use reference::encode::encode;
+use reference::read::read;
+use reference::sheet::{Action, Epistemic, Objective, Program, Sheet};
+use reference::states::{State, StateSet};
+use reference::step::{gather, keep};
+use reference::truth::holds_knowing;
 
 use crate::before::Before;
 use crate::sheets::{goal_of_atoms, most};

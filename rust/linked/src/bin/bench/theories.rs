@@ -1,7 +1,7 @@
 //! Formulas for the sheets.
 
-use recovery::random::Random;
-use recovery::sheet::{Epistemic, Objective};
+use reference::random::Random;
+use reference::sheet::{Epistemic, Objective};
 
 pub fn stays(facts: u8) -> Objective {
     all((0..facts).map(stays_one))

@@ -1,5 +1,5 @@
 //! The proved verifier beside the one of an earlier commit, if that is linked, and
-//! three in Rust: `recovery::verify::verify`, which carries sets of states forward
+//! three in Rust: `reference::verify::verify`, which carries sets of states forward
 //! over the sheet's tree (data), `plain::verify` over the same tables, which visits
 //! all histories, and `plain::verify_remembering`, with the same memory. The proved
 //! `prepare` makes their tables in their time, so that the search itself is compared.
@@ -7,9 +7,9 @@
 use std::hint::black_box;
 
 use linked::{plain, Tables, Verdict};
-use recovery::encode::encode;
-use recovery::sheet::MAX_TRACE;
-use recovery::verify::{verify, Answer};
+use reference::encode::encode;
+use reference::sheet::MAX_TRACE;
+use reference::verify::{verify, Answer};
 
 use crate::routines::{later_sheets, verified_sheets, without_action};
 use crate::slowest::{atoms, slow_sheets};

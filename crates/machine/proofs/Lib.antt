@@ -1,0 +1,5 @@
+pub mod Contracts
+pub mod Lending
+pub mod Passing
+pub mod Loading
+pub mod Blocks
