@@ -1,6 +1,7 @@
 /*
  * The proved recovery library for C: the reader of sheets, the verifier, the trace checker and the runner. C99, and
- * C++11. "Document 01" is the requirement; crates/recovery/src/lib.rt has the functions with their contracts.
+ * C++11. "Document 01" is the requirement; crates/recovery/src/lib.rt has the functions with their contracts. A sheet
+ * is of edition 1 or 2. In edition 2 it says a constraint, and only what satisfies that is a state (docs/FORMAT.md).
  *
  * Any numbers may stand in the memory that a call is lent, be it a sheet, a trace, a record or tables. What the caller
  * sees to, since nothing checks it:
@@ -46,7 +47,7 @@ extern "C" {
 /*
  * What a call gives: 0, or why it is refused, by document 01's numbers. Of several reasons the first is given: 1; then
  * 2 to 11 as the fields are read (8 before the tag is read, 7 before the fact number, 11 and 10 when the tag is known);
- * then 12; 13; and 14 or 15, by action number.
+ * then 12; 16; 13; and 14 or 15, by action number.
  */
 enum recovery_answer {
     RECOVERY_ACCEPTED = 0,
@@ -54,7 +55,7 @@ enum recovery_answer {
     /* From the sheet: given by read, prepare, verify, check and load. */
     RECOVERY_REFUSED_LENGTH = 1,        /* longer than 1,024 bytes */
     RECOVERY_REFUSED_CUT = 2,           /* ends inside a field */
-    RECOVERY_REFUSED_EDITION = 3,       /* the edition isn't 1 */
+    RECOVERY_REFUSED_EDITION = 3,       /* the edition isn't 1 or 2 */
     RECOVERY_REFUSED_FACTS = 4,         /* the number of facts isn't 1 to 8 */
     RECOVERY_REFUSED_REPLIES = 5,       /* the reply count of a probe isn't 1 to 8 */
     RECOVERY_REFUSED_FACT_NUMBER = 6,   /* a fact number is that of no fact */
@@ -67,6 +68,7 @@ enum recovery_answer {
     RECOVERY_REFUSED_NO_START = 13,     /* no start state */
     RECOVERY_REFUSED_NO_NEXT = 14,      /* a state without next state */
     RECOVERY_REFUSED_NO_REPLY = 15,     /* a state without reply */
+    RECOVERY_REFUSED_NO_STATE = 16,     /* no state satisfies the constraint */
 
     /* From the trace memory: given by verify, before anything else. */
     RECOVERY_REFUSED_SHORT_MEMORY = 30, /* under 129 bytes */

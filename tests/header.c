@@ -41,13 +41,19 @@ ELEMENT(struct recovery_told, value, 1);
 ELEMENT(struct recovery_lengths, sheet, 0);
 ELEMENT(struct recovery_lengths, replies, 1);
 
-/* Cases 1, 2, 3 and 9 of document 01, and case 2 with its action twice. */
+/*
+ * Cases 1, 2, 3 and 9 of document 01, and case 2 with its action twice; of the samples with a constraint
+ * never-both-live and no-state.
+ */
 static const uint8_t valid[] = {0x11, 0x0C, 0x90, 0x88, 0x1C, 0x40, 0x88, 0x20, 0x00};
 static const uint8_t invalid[] = {0x11, 0x0C, 0x90, 0x88, 0x11, 0x04, 0x00};
 static const uint8_t refused[] = {0x11, 0x0C, 0x90, 0x88, 0x1C, 0x40, 0x88, 0x20, 0x01};
 static const uint8_t twice[] = {0x11, 0x0C, 0x90, 0x88, 0x11, 0x04, 0x08, 0x00};
 static const uint8_t branching[] = {0x12, 0x1C, 0xBA, 0x08, 0xCE, 0x82, 0x32, 0xA8, 0x23, 0x2A, 0x08, 0xAF, 0x62, 0x21,
                                     0xD9, 0x44, 0xE5, 0x41, 0x12, 0x54, 0x11, 0x41, 0x1D, 0x04, 0x50, 0x88, 0x90, 0x80};
+static const uint8_t constrained[] = {0x22, 0x95, 0x04, 0x45, 0x24, 0x22, 0x06, 0x0C,
+                                      0x20, 0x44, 0x50, 0x42, 0x02, 0x10};
+static const uint8_t stateless[] = {0x21, 0xA8, 0x44, 0x00, 0x02, 0x00};
 
 static struct recovery_tables tables, marked_tables, prepared;
 static struct recovery_record record, marked_record;
@@ -114,6 +120,8 @@ static void verifying(void)
     mark();
     EXPECT(recovery_read(SHEET(valid)) == RECOVERY_ACCEPTED);
     EXPECT(recovery_read(SHEET(refused)) == RECOVERY_REFUSED_PADDING);
+    EXPECT(recovery_read(SHEET(constrained)) == RECOVERY_ACCEPTED);
+    EXPECT(recovery_read(SHEET(stateless)) == RECOVERY_REFUSED_NO_STATE);
 
     EXPECT(recovery_verify(SHEET(refused), 9, SHEET(trace), &verdict) == RECOVERY_REFUSED_PADDING);
     EXPECT(recovery_verify(SHEET(valid), 9, trace, 128, &verdict) == RECOVERY_REFUSED_SHORT_MEMORY);
@@ -146,6 +154,11 @@ static void verifying(void)
 
     EXPECT(recovery_print(SHEET(invalid), lines) == 21 && memcmp(lines, "invalid 2 1\n00 01 00\n", 21) == 0);
     EXPECT(memcmp(lines + 21, marked_lines + 21, sizeof lines - 21) == 0);
+
+    EXPECT(recovery_verify(SHEET(constrained), 9, SHEET(trace), &verdict) == RECOVERY_ACCEPTED);
+    EXPECT(verdict_is(RECOVERY_VALID, 3, 0));
+    EXPECT(recovery_verify(SHEET(stateless), 9, SHEET(trace), &verdict) == RECOVERY_REFUSED_NO_STATE);
+    EXPECT(recovery_check(SHEET(stateless), SHEET(failing)) == RECOVERY_REFUSED_NO_STATE);
 }
 
 static void running(void)
@@ -232,6 +245,12 @@ static void walking(void)
     recovery_step(tables.heads, tables.sets, set, 0, 1);
     place = recovery_settle(tables.nodes, tables.sets, set, 5);
     EXPECT(!recovery_place_is_end(place) && recovery_place_action(place) == 2);
+
+    /* State 3 isn't one: neither at the start nor after the change, which is action 1. */
+    EXPECT(recovery_prepare(SHEET(stateless), TABLES, set) == RECOVERY_REFUSED_NO_STATE);
+    EXPECT(recovery_prepare(SHEET(constrained), TABLES, set) == RECOVERY_ACCEPTED && set[0] == 7);
+    recovery_step(tables.heads, tables.sets, set, 1, 0);
+    EXPECT(set[0] == 2 && set[1] == 0 && set[2] == 0 && set[3] == 0);
 }
 
 int main(void)

@@ -15,6 +15,7 @@ pub fn edges() -> Vec<Vec<u8>> {
     sheets.extend(fields());
     sheets.extend(ends());
     sheets.extend(depths());
+    sheets.extend(constraints());
     sheets.extend(nodes());
     sheets.extend(numbers());
     sheets.extend(faults());
@@ -24,15 +25,18 @@ pub fn edges() -> Vec<Vec<u8>> {
     sheets
 }
 
-/// Every field of a sheet with every kind of node, at every value.
+/// Every field of a sheet with every kind of node, and of one with a constraint, at
+/// every value.
 fn fields() -> Vec<Vec<u8>> {
-    let (bytes, fields) = encode_with_layout(&varied());
     let mut sheets = Vec::new();
-    for field in &fields {
-        for value in 0..1 << field.width {
-            let mut sheet = bytes.clone();
-            overwrite(&mut sheet, field, value);
-            sheets.push(sheet);
+    for sheet in [varied(), constrained()] {
+        let (bytes, fields) = encode_with_layout(&sheet);
+        for field in &fields {
+            for value in 0..1 << field.width {
+                let mut sheet = bytes.clone();
+                overwrite(&mut sheet, field, value);
+                sheets.push(sheet);
+            }
         }
     }
     sheets
@@ -41,11 +45,13 @@ fn fields() -> Vec<Vec<u8>> {
 /// Sheets cut after every byte, with spare bytes, and with every padding bit set.
 fn ends() -> Vec<Vec<u8>> {
     let mut sheets = Vec::new();
-    for negations in 0..8 {
-        let sheet = Sheet {
-            start: negated(2 * negations, Objective::True),
-            ..varied()
-        };
+    sheets.extend(prefixes(&encode(&varied())));
+    sheets.extend(prefixes(&encode(&constrained())));
+    let padded = (0..8).map(|negations| Sheet {
+        start: negated(2 * negations, Objective::True),
+        ..varied()
+    });
+    for sheet in padded.chain([constrained()]) {
         let (bytes, fields) = encode_with_layout(&sheet);
         let end = fields
             .last()
@@ -57,9 +63,6 @@ fn ends() -> Vec<Vec<u8>> {
         }
         for spare in [0x00, 0x01, 0x80] {
             sheets.push([&bytes[..], &[spare]].concat());
-        }
-        if negations == 0 {
-            sheets.extend((0..=bytes.len()).map(|length| bytes[..length].to_vec()));
         }
     }
     sheets
@@ -74,6 +77,7 @@ fn depths() -> Vec<Vec<u8>> {
             let under = negated(depth - 2, leaf);
             let theory = Action::Change(chain.clone().or(Objective::True));
             let reply = Action::Probe(vec![Objective::True, chain.clone()]);
+            sheets.push(encode(&plain().constrained(chain.clone())));
             sheets.push(encode(&Sheet {
                 start: chain,
                 ..plain()
@@ -95,11 +99,72 @@ fn depths() -> Vec<Vec<u8>> {
         }
         let atom = || Epistemic::Known(Objective::True);
         let goal = (0..depth - 2).fold(atom(), |right, _| atom().or(right));
-        let bytes = encode(&Sheet { goal, ..plain() });
-        sheets.extend((0..bytes.len()).map(|length| bytes[..length].to_vec()));
-        sheets.push(bytes);
+        sheets.extend(prefixes(&encode(&Sheet { goal, ..plain() })));
     }
+    // Cut after seven bytes, the constraint ends with its sixteenth negation.
+    let deepest = negated(MAX_DEPTH as usize, Objective::True);
+    let bytes = encode(&plain().constrained(deepest));
+    sheets.extend([6, 7, 8].map(|length| bytes[..length].to_vec()));
     sheets
+}
+
+/// Constraints with facts around n, with one state or none, and with actions that are
+/// stuck or silent inside them, or only outside.
+fn constraints() -> Vec<Vec<u8>> {
+    let [fact, new] = [Objective::Fact, Objective::New];
+    let of = |facts| Sheet { facts, ..plain() };
+    let mut sheets = Vec::new();
+    for facts in 1..=MAX_FACTS {
+        for number in [facts - 1, facts.min(7)] {
+            sheets.push(of(facts).constrained(fact(number).or(Objective::False)));
+        }
+        let all = (1..facts).fold(fact(0), |all, number| all.and(fact(number)));
+        let none = all.clone().and(fact(facts - 1).negate());
+        sheets.extend([all, none].map(|constraint| of(facts).constrained(constraint)));
+    }
+    let both = || fact(0).and(fact(1));
+    let never_both = || both().negate();
+    let leaving = || Action::Change(new(0).and(new(1)));
+    let silent = || Action::Probe(vec![fact(0).and(fact(1).negate()), fact(1)]);
+    for (start, action) in [
+        // Stuck only outside, and in state 0 too.
+        (Objective::True, Action::Change(never_both().and(new(0)))),
+        (
+            Objective::True,
+            Action::Change(fact(0).iff(fact(1).negate()).and(new(0))),
+        ),
+        // Next states inside and outside, only outside, only outside from states 1 and 2.
+        (Objective::True, Action::Change(new(0))),
+        (Objective::True, leaving()),
+        (
+            Objective::True,
+            Action::Change(new(0).and(new(1).or(fact(0).or(fact(1)).negate()))),
+        ),
+        // Silent only outside, and in state 0 too.
+        (
+            Objective::True,
+            Action::Probe(vec![fact(0).negate(), fact(1).negate()]),
+        ),
+        (Objective::True, silent()),
+        // A start formula that is true only outside, and nowhere.
+        (both(), leaving()),
+        (both(), silent()),
+        (Objective::False, leaving()),
+        (Objective::False, silent()),
+    ] {
+        let sheet = Sheet {
+            actions: vec![action],
+            start,
+            ..of(2)
+        };
+        sheets.push(sheet.constrained(never_both()));
+    }
+    sheets.iter().map(encode).collect()
+}
+
+/// A sheet cut after every byte, and whole.
+fn prefixes(bytes: &[u8]) -> impl Iterator<Item = Vec<u8>> + '_ {
+    (0..=bytes.len()).map(|length| bytes[..length].to_vec())
 }
 
 /// Programs at and around the limits of nodes, with and without a fault behind them.
@@ -176,7 +241,8 @@ fn numbers() -> Vec<Vec<u8>> {
 /// Every choice among the faults that are looked for after the fields, the actions in both orders.
 fn faults() -> Vec<Vec<u8>> {
     let mut sheets = Vec::new();
-    for chosen in 0..32 {
+    // The order of actions doesn't matter where no state satisfies the constraint.
+    for chosen in 0..48 {
         let with = |fault: usize| chosen >> fault & 1 == 1;
         let stuck = match with(0) {
             true => Action::Change(Objective::Fact(0).and(Objective::New(0))),
@@ -194,11 +260,15 @@ fn faults() -> Vec<Vec<u8>> {
             true => Objective::False,
             false => Objective::True,
         };
-        let mut bytes = encode(&Sheet {
+        let mut sheet = Sheet {
             actions,
             start,
             ..plain()
-        });
+        };
+        if with(5) {
+            sheet = sheet.constrained(Objective::False);
+        }
+        let mut bytes = encode(&sheet);
         let padded = 8 * bytes.len() - 1;
         if with(3) {
             set_bit(&mut bytes, padded, true);
@@ -212,7 +282,7 @@ fn faults() -> Vec<Vec<u8>> {
 fn lengths() -> Vec<Vec<u8>> {
     let mut sheets = Vec::new();
     for length in [MAX_BYTES - 1, MAX_BYTES, MAX_BYTES + 1] {
-        for first in [0x11, 0x21] {
+        for first in [0x11, 0x21, 0x41] {
             let mut bytes = encode(&plain());
             bytes.resize(length, 0);
             bytes[0] = first;
@@ -227,6 +297,7 @@ pub fn plain() -> Sheet {
     Sheet {
         edition: 1,
         facts: 1,
+        constraint: Objective::True,
         actions: vec![],
         start: Objective::True,
         goal: Epistemic::Known(Objective::True),
@@ -241,6 +312,7 @@ fn varied() -> Sheet {
     Sheet {
         edition: 1,
         facts: 2,
+        constraint: Objective::True,
         actions: vec![
             Action::Change(theory),
             Action::Probe(vec![fact.clone(), fact.clone().negate()]),
@@ -257,6 +329,24 @@ fn varied() -> Sheet {
             ),
         ),
     }
+}
+
+/// A sheet with a constraint of every kind of node, and a part of each kind.
+fn constrained() -> Sheet {
+    let fact = Objective::Fact(1);
+    let never_both = Objective::Fact(0).and(fact.clone()).negate();
+    let truth = Objective::False.or(Objective::True);
+    Sheet {
+        facts: 2,
+        actions: vec![
+            Action::Change(Objective::New(0)),
+            Action::Probe(vec![fact.clone(), fact.clone().negate()]),
+        ],
+        goal: Epistemic::Known(fact),
+        program: Program::act(1, Program::End),
+        ..plain()
+    }
+    .constrained(never_both.iff(truth))
 }
 
 fn negated(count: usize, formula: Objective) -> Objective {

@@ -3,7 +3,7 @@
 //! It writes whatever it is given, refused sheets included, and tells where
 //! each field lies, so that single fields can be overwritten.
 
-use crate::sheet::{Action, Epistemic, Objective, Program, Sheet};
+use crate::sheet::{has_constraint, Action, Epistemic, Objective, Program, Sheet};
 
 /// What a field says.
 #[derive(Clone, Copy, Debug, PartialEq, Eq)]
@@ -28,7 +28,8 @@ pub struct Field {
     pub width: usize,
 }
 
-/// The packed bytes of a sheet, padded with zero bits.
+/// The packed bytes of a sheet, padded with zero bits. A constraint that its edition
+/// can't say is left out.
 pub fn encode(sheet: &Sheet) -> Vec<u8> {
     encode_with_layout(sheet).0
 }
@@ -38,6 +39,9 @@ pub fn encode_with_layout(sheet: &Sheet) -> (Vec<u8>, Vec<Field>) {
     let mut writer = Writer::default();
     writer.field(Kind::Edition, 4, usize::from(sheet.edition));
     writer.field(Kind::Facts, 4, usize::from(sheet.facts));
+    if has_constraint(sheet.edition) {
+        writer.objective(&sheet.constraint);
+    }
     writer.field(Kind::Actions, 5, sheet.actions.len());
     for action in &sheet.actions {
         writer.action(action);

@@ -1,8 +1,10 @@
 //! Seeded generation of sheets, good and damaged ones.
 
+use crate::edges::plain;
 use crate::encode::{encode, encode_with_layout, overwrite, set_bit, Field, Kind};
 use crate::read::read;
 use crate::sheet::{Action, Epistemic, Objective, Program, Sheet, MAX_BYTES, MAX_TRACE};
+use crate::truth::holds;
 use crate::verify::{verify, Answer};
 
 /// A deterministic source of random numbers (xorshift, multiplied).
@@ -92,7 +94,8 @@ impl Size {
     };
 }
 
-/// A sheet that the reader accepts.
+/// A sheet that the reader accepts; every other one has a constraint, mostly one that
+/// excludes states.
 pub fn good(random: &mut Random, size: &Size) -> Sheet {
     loop {
         let sheet = Maker::new(random, size).sheet();
@@ -100,6 +103,23 @@ pub fn good(random: &mut Random, size: &Size) -> Sheet {
             return sheet;
         }
     }
+}
+
+/// The sheet with a constraint that excludes states; as it was if it would then be
+/// refused.
+pub fn constrained(random: &mut Random, sheet: Sheet) -> Sheet {
+    let size = Size {
+        facts: (sheet.facts.into(), sheet.facts.into()),
+        ..Size::SMALL
+    };
+    for _ in 0..8 {
+        let constraint = Maker::new(random, &size).excluding();
+        let changed = sheet.clone().constrained(constraint);
+        if read(&encode(&changed)).is_ok() {
+            return changed;
+        }
+    }
+    sheet
 }
 
 /// The bytes of a sheet with one or two faults; a few are accepted nevertheless.
@@ -121,6 +141,10 @@ struct Maker<'a> {
     random: &'a mut Random,
     size: &'a Size,
     facts: usize,
+    /// Edition, number of facts and constraint of the sheet, which has nothing else yet.
+    frame: Sheet,
+    /// Whether actions may lack a next state or a reply in excluded states.
+    relies: bool,
     /// Formulas worth asking about: facts and replies.
     topics: Vec<Objective>,
     action_nodes: usize,
@@ -134,6 +158,11 @@ impl Maker<'_> {
             random,
             size,
             facts,
+            frame: Sheet {
+                facts: facts as u8,
+                ..plain()
+            },
+            relies: false,
             topics: (0..facts as u8).map(Objective::Fact).collect(),
             action_nodes: size.action_nodes,
             branch_nodes: size.branch_nodes,
@@ -141,6 +170,14 @@ impl Maker<'_> {
     }
 
     fn sheet(&mut self) -> Sheet {
+        if self.random.chance(1, 2) {
+            let constraint = match self.random.chance(1, 8) {
+                true => Objective::True,
+                false => self.excluding(),
+            };
+            self.frame = self.frame.clone().constrained(constraint);
+            self.relies = self.random.chance(1, 2);
+        }
         let mut count = self
             .random
             .between(self.size.actions.0, self.size.actions.1);
@@ -159,14 +196,44 @@ impl Maker<'_> {
         let program = self.program(length, actions.len());
         let goal = self.epistemic(2);
         let sheet = Sheet {
-            edition: 1,
-            facts: self.facts as u8,
             actions,
             start,
             goal,
             program,
+            ..self.frame.clone()
         };
         self.with_goal(sheet)
+    }
+
+    /// A constraint that excludes some states but not all, and seldom all but one.
+    fn excluding(&mut self) -> Objective {
+        loop {
+            let [one, other, third] = [(); 3].map(|()| self.literal());
+            let never =
+                |one: &Objective, other: &Objective| one.clone().and(other.clone()).negate();
+            let constraint = match self.random.below(6) {
+                0 | 1 => never(&one, &other),
+                2 => never(&one, &other).and(never(&one, &third).and(never(&other, &third))),
+                3 => one.or(other),
+                4 => one.iff(self.objective(self.size.depth, false)),
+                _ => self.objective(self.size.depth + 1, false),
+            };
+            let all = 1u16 << self.facts;
+            let left = (0..all).filter(|&state| holds(&constraint, state as u8));
+            let left = left.count();
+            let few = self.facts == 1 || self.random.chance(1, 8);
+            if left < all.into() && (left > 1 || left == 1 && few) {
+                return constraint;
+            }
+        }
+    }
+
+    fn literal(&mut self) -> Objective {
+        let fact = Objective::Fact(self.random.below(self.facts) as u8);
+        match self.random.chance(1, 3) {
+            true => fact.negate(),
+            false => fact,
+        }
     }
 
     /// Random goals mostly fail somewhere, so half of the sheets look for one
@@ -183,13 +250,26 @@ impl Maker<'_> {
         sheet
     }
 
+    /// Not all theories and replies suit the constraint, so there are several tries.
     fn action(&mut self) -> Action {
-        if self.random.chance(1, 2) {
-            return Action::Change(self.theory());
+        let change = self.random.chance(1, 2);
+        for _ in 0..16 {
+            let action = match change {
+                true => Action::Change(self.theory()),
+                false => Action::Probe(self.replies()),
+            };
+            let alone = Sheet {
+                actions: vec![action.clone()],
+                ..self.frame.clone()
+            };
+            if read(&encode(&alone)).is_ok() {
+                if let Action::Probe(replies) = &action {
+                    self.topics.extend(replies.iter().cloned());
+                }
+                return action;
+            }
         }
-        let replies = self.replies();
-        self.topics.extend(replies.iter().cloned());
-        Action::Probe(replies)
+        Action::Change(Objective::True)
     }
 
     /// Mostly a clause for each fact, where omitted clauses free their facts.
@@ -204,6 +284,7 @@ impl Maker<'_> {
                 2 => clauses.push(new.iff(fact.negate())),
                 3 => clauses.push(new.iff(self.objective(self.size.depth, false))),
                 4 => {}
+                5 if self.frame.constraint != Objective::True => {}
                 _ => clauses.push(new.iff(fact)),
             }
         }
@@ -213,11 +294,14 @@ impl Maker<'_> {
         match self.random.below(8) {
             0 => clauses.or(self.objective(self.size.depth, true)),
             1 if self.facts <= 3 => self.objective(self.size.depth + 1, true),
+            // Stuck in the states that are excluded.
+            2 | 3 if self.relies => self.frame.constraint.clone().and(clauses),
             _ => clauses,
         }
     }
 
-    /// Replies that leave no state without one, whether or not they overlap.
+    /// Replies that leave no state without one, or perhaps do where the sheet relies on
+    /// its constraint, whether or not they overlap.
     fn replies(&mut self) -> Vec<Objective> {
         let most = self.random.between(1, self.size.replies);
         let mut replies: Vec<Objective> = (1..most)
@@ -230,12 +314,16 @@ impl Maker<'_> {
                 replies
             }
             1 => {
-                let other = self
+                let mut other = self
                     .combine(replies.clone(), Objective::or)
                     .map_or(Objective::True, Objective::negate);
+                if self.relies {
+                    other = self.frame.constraint.clone().and(other);
+                }
                 replies.push(other);
                 replies
             }
+            2 if self.relies && most > 1 => replies,
             _ => {
                 let topic = self.random.pick(&self.topics).clone();
                 vec![topic.clone(), topic.negate()]
@@ -336,7 +424,7 @@ impl Maker<'_> {
 
 /// Puts a fault into the data.
 fn spoil_data(random: &mut Random, sheet: &mut Sheet) {
-    match random.below(14) {
+    match random.below(20) {
         0 => sheet.edition = random.below(16) as u8,
         1 => sheet.facts = *random.pick(&[0, 1, 9, 10, 15]),
         2 => sheet.start = deep(random, sheet.start.clone()),
@@ -361,6 +449,10 @@ fn spoil_data(random: &mut Random, sheet: &mut Sheet) {
             let action = random.below(32) as u8;
             sheet.program = Program::act(action, sheet.program.clone());
         }
+        9..=13 => {
+            let constraint = spoilt_constraint(random, sheet);
+            *sheet = sheet.clone().constrained(constraint);
+        }
         _ => {
             let number = random.between(0, usize::from(sheet.facts.min(7))) as u8;
             let action = spoilt_action(random, number);
@@ -369,6 +461,22 @@ fn spoil_data(random: &mut Random, sheet: &mut Sheet) {
             // The 5-bit field holds no greater number of them.
             sheet.actions.truncate(31);
         }
+    }
+}
+
+/// A constraint that no state satisfies, one that is badly formed, or another one.
+fn spoilt_constraint(random: &mut Random, sheet: &Sheet) -> Objective {
+    let constraint = sheet.constraint.clone();
+    let number = random.below(8) as u8;
+    match random.below(8) {
+        0 => Objective::False,
+        1 => constraint.clone().and(constraint.negate()),
+        2 => constraint.and(Objective::New(number)),
+        3 => Objective::Fact(sheet.facts.min(7)).or(constraint),
+        4 => Objective::Fact(number).iff(constraint),
+        5 => deep(random, constraint),
+        6 => Objective::Fact(0),
+        _ => Objective::Fact(0).negate().and(constraint),
     }
 }
 
@@ -411,7 +519,7 @@ fn spoilt_action(random: &mut Random, number: u8) -> Action {
 /// or lie past their end.
 fn spoil_bytes(random: &mut Random, bytes: &mut Vec<u8>, fields: &[Field]) {
     let bits = 8 * bytes.len();
-    match random.below(12) {
+    match random.below(13) {
         0 | 1 => bytes.truncate(random.between(0, bytes.len())),
         2 => bytes.extend((0..random.between(1, 3)).map(|_| random.chance(1, 2) as u8)),
         3 if bits > 0 => set_bit(bytes, bits - 1, true),
@@ -426,6 +534,8 @@ fn spoil_bytes(random: &mut Random, bytes: &mut Vec<u8>, fields: &[Field]) {
         7 => spoil_field(random, bytes, fields, |kind| kind == Kind::ProgramTag),
         8 => spoil_field(random, bytes, fields, |kind| kind == Kind::Replies),
         9 => spoil_field(random, bytes, fields, |kind| kind == Kind::FactNumber),
+        // Editions 1 and 2 change places.
+        10 if bits > 0 => bytes[0] ^= 0x30,
         _ => spoil_field(random, bytes, fields, |_| true),
     }
 }

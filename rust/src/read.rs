@@ -2,10 +2,10 @@
 
 use crate::refusal::Refusal;
 use crate::sheet::{
-    edition_is_known, Action, Epistemic, Objective, Program, Sheet, MAX_ACTION_NODES,
-    MAX_BRANCH_NODES, MAX_BYTES, MAX_DEPTH, MAX_FACTS, MAX_REPLIES,
+    edition_is_known, has_constraint, Action, Epistemic, Objective, Program, Sheet,
+    MAX_ACTION_NODES, MAX_BRANCH_NODES, MAX_BYTES, MAX_DEPTH, MAX_FACTS, MAX_REPLIES,
 };
-use crate::states::states;
+use crate::states::{states, State};
 use crate::step::{effect, replies, start_states};
 
 /// Reads a sheet. The first fault in reading order decides; the tests on states
@@ -62,6 +62,10 @@ impl Reader<'_> {
         if !(1..=MAX_FACTS).contains(&self.facts) {
             return Err(Refusal::Facts);
         }
+        let constraint = match has_constraint(edition) {
+            true => self.objective(1, false)?,
+            false => Objective::True,
+        };
         self.actions = self.field(5)?;
         let mut actions = Vec::new();
         for _ in 0..self.actions {
@@ -70,6 +74,7 @@ impl Reader<'_> {
         Ok(Sheet {
             edition,
             facts: self.facts,
+            constraint,
             actions,
             start: self.objective(1, false)?,
             goal: self.epistemic(1)?,
@@ -175,28 +180,33 @@ fn count_node(count: &mut usize, limit: usize) -> Result<(), Refusal> {
     Ok(())
 }
 
-/// Some state must satisfy the start formula; in every state each change must
-/// have a next state and each probe a reply, used in the program or not.
+/// There must be a state, and one that satisfies the start formula; in every state
+/// each change must have a next state and each probe a reply, used in the program
+/// or not.
 fn test_states(sheet: &Sheet) -> Result<(), Refusal> {
+    let states: Vec<State> = states(sheet).collect();
+    if states.is_empty() {
+        return Err(Refusal::NoState);
+    }
     if start_states(sheet).is_empty() {
         return Err(Refusal::NoStartState);
     }
     sheet
         .actions
         .iter()
-        .try_for_each(|action| test_action(sheet, action))
+        .try_for_each(|action| test_action(&states, action))
 }
 
-fn test_action(sheet: &Sheet, action: &Action) -> Result<(), Refusal> {
-    'states: for before in states(sheet) {
-        for after in states(sheet) {
+fn test_action(states: &[State], action: &Action) -> Result<(), Refusal> {
+    'states: for &before in states {
+        for &after in states {
             if effect(action, before, after) {
                 continue 'states;
             }
         }
         return Err(Refusal::NoNextState);
     }
-    for state in states(sheet) {
+    for &state in states {
         if !(0..action.reply_count()).any(|reply| replies(action, reply, state)) {
             return Err(Refusal::NoReply);
         }

@@ -34,6 +34,8 @@ pub enum Refusal {
     NoNextState = 14,
     /// A probe has no reply in some state.
     NoReply = 15,
+    /// No state satisfies the constraint.
+    NoState = 16,
     /// The lent trace memory is shorter than the longest trace.
     TraceMemory = 30,
     /// The record is not one that loading and reporting can give.

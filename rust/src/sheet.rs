@@ -1,4 +1,4 @@
-//! A sheet as data: facts, actions, start formula, goal and program.
+//! A sheet as data: facts, constraint, actions, start formula, goal and program.
 //!
 //! The types also hold values that no accepted sheet has (a wrong edition, fact
 //! numbers out of range, new facts outside theories), so that refused sheets
@@ -21,7 +21,12 @@ pub const MAX_TRACE: usize = 1 + 2 * MAX_ACTION_NODES;
 
 /// Whether sheets of this edition are read.
 pub fn edition_is_known(edition: u8) -> bool {
-    edition == 1
+    edition == 1 || has_constraint(edition)
+}
+
+/// Whether sheets of this edition say their constraint; in others it is true.
+pub fn has_constraint(edition: u8) -> bool {
+    edition == 2
 }
 
 /// A formula about facts. In theories, `New` is a fact's value after the change.
@@ -74,6 +79,8 @@ pub enum Action {
 pub struct Sheet {
     pub edition: u8,
     pub facts: u8,
+    /// What holds in every state. Only some editions can say it.
+    pub constraint: Objective,
     pub actions: Vec<Action>,
     pub start: Objective,
     pub goal: Epistemic,
@@ -129,6 +136,17 @@ impl Program {
             then: Box::new(then),
             otherwise: Box::new(otherwise),
             rest: Box::new(rest),
+        }
+    }
+}
+
+impl Sheet {
+    /// The sheet in the edition that says its constraint, with this one.
+    pub fn constrained(self, constraint: Objective) -> Sheet {
+        Sheet {
+            edition: 2,
+            constraint,
+            ..self
         }
     }
 }

@@ -1,19 +1,28 @@
 //! States, the state space and sets of states.
 
-use crate::sheet::Sheet;
+use crate::sheet::{Objective, Sheet};
+use crate::truth::holds;
 
 /// A valuation of the facts: fact i has weight 2^i.
 pub type State = u8;
 
-/// The state space of a sheet, in increasing order.
-pub fn states(sheet: &Sheet) -> impl Iterator<Item = State> {
+/// The state space of a sheet, in increasing order: the valuations of its facts
+/// that satisfy its constraint.
+pub fn states(sheet: &Sheet) -> impl Iterator<Item = State> + '_ {
     let last = ((1u16 << sheet.facts) - 1) as u8;
-    0..=last
+    (0..=last).filter(|&state| holds(&sheet.constraint, state))
 }
 
 /// Whether a byte is one of the sheet's states.
 pub fn is_state(sheet: &Sheet, byte: u8) -> bool {
     states(sheet).any(|state| state == byte)
+}
+
+/// The valuations of a sheet's facts that its constraint excludes, in increasing order.
+pub fn excluded(sheet: &Sheet) -> Vec<State> {
+    let free = sheet.clone().constrained(Objective::True);
+    let outside = |&state: &State| !is_state(sheet, state);
+    states(&free).filter(outside).collect()
 }
 
 /// A set of states: state s has weight 2^(s mod 64) in word s div 64.

@@ -8,9 +8,13 @@ use std::path::PathBuf;
 use std::process::{Command, Stdio};
 
 use common::{unhex, verdict};
+use reference::check::{check, Checked};
+use reference::encode::encode;
 use reference::print::lines;
 use reference::read::read;
 use reference::refusal::Refusal;
+use reference::sheet::Objective;
+use reference::states::excluded;
 use reference::verify::Answer;
 
 fn reference(sheet: &[u8]) -> String {
@@ -57,7 +61,7 @@ fn samples_through_the_command() {
             checked += 1;
         }
     }
-    assert_eq!(checked, 17);
+    assert_eq!(checked, 25);
 }
 
 #[test]
@@ -111,6 +115,42 @@ fn rows_hold_what_the_verifier_says() {
             .all(|talk| refused || talk.split(':').count() == 4));
         assert!(checks.split(',').all(|check| check.split(':').count() == 2));
     }
+}
+
+/// Sheets that exclude states, and traces that would be good ones if they did not.
+#[test]
+fn rows_have_constraints() {
+    let (mut accepted, mut outside, mut would_fail) = (0, 0, 0);
+    let mut no_state = 0;
+    for row in rows("7", "600").lines() {
+        let fields: Vec<&str> = row.split(';').collect();
+        let sheet = match read(&unhex(fields[0])) {
+            Ok(sheet) => sheet,
+            Err(refusal) => {
+                no_state += usize::from(refusal == Refusal::NoState);
+                continue;
+            }
+        };
+        let excluded = excluded(&sheet);
+        accepted += usize::from(!excluded.is_empty());
+        let free = encode(&sheet.constrained(Objective::True));
+        for checked in fields[5].split(',') {
+            let (trace, answer) = checked.split_once(':').expect("a checked trace");
+            let trace = unhex(trace);
+            if trace
+                .iter()
+                .step_by(2)
+                .any(|state| excluded.contains(state))
+            {
+                assert_eq!(answer, "no");
+                outside += 1;
+                would_fail += usize::from(check(&free, &trace) == Checked::Yes);
+            }
+        }
+    }
+    assert!(accepted >= 120, "{accepted}");
+    assert!(outside >= 100 && would_fail >= 40, "{outside} {would_fail}");
+    assert!(no_state >= 3, "{no_state}");
 }
 
 #[test]

@@ -13,6 +13,8 @@ use reference::sheet::{Action, Epistemic, Objective, Program, Sheet};
 const HEAD: &str = "0001 0001 00000";
 /// Edition 1, one fact, one action.
 const HEAD_ONE: &str = "0001 0001 00001";
+/// Edition 2, one fact; the constraint follows.
+const HEAD_TWO: &str = "0010 0001";
 /// Start true, goal known true.
 const TRUE_GOAL: &str = "001 00 001";
 
@@ -118,8 +120,8 @@ fn longest_sheet() {
 
 #[test]
 fn too_long_comes_first() {
-    assert_eq!(refused(&[0x21; 1025]), Some(Refusal::TooLong));
-    assert_eq!(refused(&[0x21; 1024]), Some(Refusal::Edition));
+    assert_eq!(refused(&[0x41; 1025]), Some(Refusal::TooLong));
+    assert_eq!(refused(&[0x41; 1024]), Some(Refusal::Edition));
     assert_eq!(refused(&[0; 5000]), Some(Refusal::TooLong));
 }
 
@@ -127,8 +129,8 @@ fn too_long_comes_first() {
 fn edition_then_facts() {
     for byte in 0..=255u8 {
         let expected = match (byte >> 4, byte & 15) {
-            (1, 1..=8) => Refusal::CutShort,
-            (1, _) => Refusal::Facts,
+            (1 | 2, 1..=8) => Refusal::CutShort,
+            (1 | 2, _) => Refusal::Facts,
             _ => Refusal::Edition,
         };
         assert_eq!(refused(&[byte]), Some(expected), "{byte:02x}");
@@ -292,6 +294,108 @@ fn left_part_before_right_part() {
     assert_sheet(&left, Some(Refusal::FactNumber));
     let right = with_start(deep().and(fact(7)));
     assert_sheet(&right, Some(Refusal::TooDeep));
+}
+
+/// The plain sheet with a constraint.
+fn with_constraint(constraint: Objective) -> Sheet {
+    plain().constrained(constraint)
+}
+
+#[test]
+fn the_constraint_stands_before_the_number_of_actions() {
+    let bits = [HEAD_TWO, "100 010 000", "00000", TRUE_GOAL, "00"].concat();
+    let sheet = with_constraint(fact(0).negate());
+    assert_eq!(encode(&sheet), unbits(&bits));
+    assert_eq!(read(&unbits(&bits)), Ok(sheet));
+    // Only edition 2 has one.
+    for edition in (0..16).filter(|&edition| edition != 2) {
+        let with = |constraint| Sheet {
+            edition,
+            constraint,
+            ..plain()
+        };
+        let bytes = encode(&with(Objective::False));
+        assert_eq!(bytes, [16 * edition + 1, 0x01, 0x08]);
+        let expected = match edition {
+            1 => Ok(with(Objective::True)),
+            _ => Err(Refusal::Edition),
+        };
+        assert_eq!(read(&bytes), expected);
+    }
+}
+
+#[test]
+fn faults_in_the_constraint() {
+    for facts in 1..=8 {
+        for number in 0..8 {
+            let sheet = Sheet { facts, ..plain() };
+            let constraint = fact(number).or(Objective::True);
+            let expected = (number >= facts).then_some(Refusal::FactNumber);
+            assert_sheet(&sheet.clone().constrained(constraint), expected);
+            let constraint = Objective::True.or(new(number));
+            assert_sheet(&sheet.constrained(constraint), Some(Refusal::NewFact));
+        }
+    }
+    // Depth 17, with a fault at its end.
+    for leaf in [Objective::True, new(0), fact(7)] {
+        let sheet = with_constraint(nots(16, leaf));
+        assert_sheet(&sheet, Some(Refusal::TooDeep));
+    }
+    assert_sheet(&with_constraint(nots(15, Objective::False)), None);
+    assert_sheet(&with_constraint(nots(14, Objective::True)), None);
+    assert_sheet(&with_constraint(nots(15, new(0))), Some(Refusal::NewFact));
+    let absent = with_constraint(nots(15, fact(1)));
+    assert_sheet(&absent, Some(Refusal::FactNumber));
+}
+
+#[test]
+fn the_constraint_is_cut() {
+    assert_cut(&[HEAD_TWO], Refusal::CutShort);
+    // A tag is cut; and where a fact's number begins, and a new fact's.
+    assert_cut(&[HEAD_TWO, "100 100 10"], Refusal::CutShort);
+    let nots = |count: usize| "100".repeat(count);
+    assert_cut(&[HEAD_TWO, &nots(7), "010"], Refusal::CutShort);
+    assert_cut(&[HEAD_TWO, &nots(7), "011"], Refusal::NewFact);
+    // The input ends after 16 levels, and after 8.
+    assert_cut(&[HEAD_TWO, &nots(16)], Refusal::TooDeep);
+    assert_cut(&[HEAD_TWO, &nots(8)], Refusal::CutShort);
+    // The constraint is whole, and the number of actions is cut.
+    assert_cut(&[HEAD_TWO, "001 00000"], Refusal::CutShort);
+    assert_cut(&[HEAD_TWO, "100 001 00"], Refusal::CutShort);
+}
+
+#[test]
+fn the_constraint_in_reading_order() {
+    // The number of facts before it, the replies, the start formula and the rest behind.
+    assert_bits(&["0010 0000 011"], Refusal::Facts);
+    assert_bits(&["0010 1001 011"], Refusal::Facts);
+    assert_bits(&["0011 0001 011"], Refusal::Edition);
+    let faulty = Sheet {
+        actions: vec![Action::Probe(vec![])],
+        start: new(0),
+        program: sequence(&[31]),
+        ..plain()
+    };
+    let deep = || nots(16, Objective::True);
+    for (constraint, expected) in [
+        (new(0), Refusal::NewFact),
+        (fact(1), Refusal::FactNumber),
+        (deep(), Refusal::TooDeep),
+        (fact(7).and(deep()), Refusal::FactNumber),
+        (deep().and(fact(7)), Refusal::TooDeep),
+        (Objective::False, Refusal::Replies),
+    ] {
+        assert_sheet(&faulty.clone().constrained(constraint), Some(expected));
+    }
+}
+
+#[test]
+fn longest_constraint() {
+    let sheet = with_constraint(wide(1362));
+    let bytes = encode(&sheet);
+    assert_eq!(bytes.len(), 1024);
+    assert_eq!(read(&bytes), Ok(sheet));
+    assert_sheet(&with_constraint(wide(1363)), Some(Refusal::TooLong));
 }
 
 #[test]
@@ -487,6 +591,48 @@ fn only_states_are_tested() {
     }
 }
 
+/// Each state in turn is the only one that is excluded.
+#[test]
+fn only_states_of_the_constraint_are_tested() {
+    for facts in [1, 3, 8] {
+        for state in 0..1u16 << facts {
+            let is = |fact: fn(u8) -> Objective, state: u16| {
+                let literal = |number: u8| match state >> number & 1 {
+                    1 => fact(number),
+                    _ => fact(number).negate(),
+                };
+                (1..facts).fold(literal(0), |all, number| all.and(literal(number)))
+            };
+            let sheet = |excluded, action| {
+                let sheet = Sheet {
+                    facts,
+                    ..with_actions(vec![action])
+                };
+                sheet.constrained(is(fact, excluded).negate())
+            };
+            let other = state ^ 1;
+            // No next state, and no reply, in this state.
+            let stuck = || Action::Change(is(fact, state).negate());
+            assert_sheet(&sheet(state, stuck()), None);
+            assert_sheet(&sheet(other, stuck()), Some(Refusal::NoNextState));
+            let mute = || Action::Probe(vec![is(fact, state).negate()]);
+            assert_sheet(&sheet(state, mute()), None);
+            assert_sheet(&sheet(other, mute()), Some(Refusal::NoReply));
+            // This state is the only next state.
+            let to = || Action::Change(is(new, state));
+            assert_sheet(&sheet(state, to()), Some(Refusal::NoNextState));
+            assert_sheet(&sheet(other, to()), None);
+            // It is the only start state.
+            let starting = |excluded| Sheet {
+                start: is(fact, state),
+                ..sheet(excluded, Action::Change(Objective::True))
+            };
+            assert_sheet(&starting(state), Some(Refusal::NoStartState));
+            assert_sheet(&starting(other), None);
+        }
+    }
+}
+
 #[test]
 fn padding_before_the_tests_on_states() {
     let starts = [Objective::False, Objective::True];
@@ -500,6 +646,44 @@ fn padding_before_the_tests_on_states() {
             assert_eq!(refused(&bytes), Some(Refusal::Padding));
         }
     }
+}
+
+#[test]
+fn a_state_before_all_other_tests_on_states() {
+    let contradiction = || fact(0).and(fact(0).negate());
+    for constraint in [Objective::False, contradiction(), nots(15, Objective::True)] {
+        for start in [Objective::False, Objective::True] {
+            for actions in [vec![], vec![stuck()], vec![mute()], vec![mute(), stuck()]] {
+                let sheet = Sheet {
+                    start: start.clone(),
+                    ..with_actions(actions)
+                };
+                let sheet = sheet.constrained(constraint.clone());
+                assert_sheet(&sheet, Some(Refusal::NoState));
+                let padded = [&encode(&sheet)[..], &[0]].concat();
+                assert_eq!(refused(&padded), Some(Refusal::Padding));
+            }
+        }
+    }
+}
+
+#[test]
+fn start_before_actions_inside_the_constraint() {
+    // States 0, 1 and 2; the start formula is true in state 3 alone.
+    let sheet = |start, action| {
+        let sheet = Sheet {
+            facts: 2,
+            start,
+            ..with_actions(vec![action])
+        };
+        sheet.constrained(fact(0).and(fact(1)).negate())
+    };
+    for action in [stuck(), mute()] {
+        let both = fact(0).and(fact(1));
+        assert_sheet(&sheet(both, action), Some(Refusal::NoStartState));
+    }
+    assert_sheet(&sheet(fact(0), stuck()), Some(Refusal::NoNextState));
+    assert_sheet(&sheet(fact(0), mute()), Some(Refusal::NoReply));
 }
 
 #[test]
@@ -544,5 +728,5 @@ fn damaged_sheets_reach_every_refusal() {
             }
         }
     }
-    assert!(reached.into_iter().eq(1..=15));
+    assert!(reached.into_iter().eq(1..=16));
 }

@@ -5,6 +5,7 @@ mod common;
 use common::{decided, fact, known, new, not_known, plain, sequence, stays, test, verdict};
 use reference::check::{check, Checked};
 use reference::encode::encode;
+use reference::refusal::Refusal;
 use reference::runner::Record;
 use reference::runs::Listing;
 use reference::sheet::{Action, Objective, Program, Sheet};
@@ -217,6 +218,112 @@ fn replies_come_before_states_in_the_order() {
         ..plain()
     };
     assert_invalid(&sheet, 1, &[1, 0, 1]);
+}
+
+/// The sheet with two facts that are never both true.
+fn never_both(sheet: Sheet) -> Sheet {
+    let sheet = Sheet { facts: 2, ..sheet };
+    sheet.constrained(fact(0).and(fact(1)).negate())
+}
+
+/// The same with the constraint true.
+fn perhaps_both(sheet: Sheet) -> Sheet {
+    never_both(sheet).constrained(Objective::True)
+}
+
+#[test]
+fn excluded_states_are_not_possible_at_the_start() {
+    let sheet = || Sheet {
+        start: fact(0),
+        goal: known(fact(1).negate()),
+        ..plain()
+    };
+    assert_valid(&never_both(sheet()), 0);
+    assert_invalid(&perhaps_both(sheet()), 0, &[1]);
+    let open = || Sheet {
+        goal: known(fact(0)),
+        ..plain()
+    };
+    // The fact is not known, so every state is the start of a failing run; 3 is none.
+    let (with, without) = (never_both(open()), perhaps_both(open()));
+    for state in 0..4 {
+        let expected = match state {
+            3 => Checked::No,
+            _ => Checked::Yes,
+        };
+        assert_eq!(check(&encode(&with), &[state]), expected);
+        assert_eq!(check(&encode(&without), &[state]), Checked::Yes);
+    }
+}
+
+#[test]
+fn a_change_does_not_lead_to_excluded_states() {
+    // From state 2, where fact 1 alone holds, fact 0 becomes true: fact 1 no longer is.
+    let sheet = || Sheet {
+        actions: vec![Action::Change(new(0))],
+        start: fact(1).and(fact(0).negate()),
+        goal: known(fact(1).negate()),
+        program: sequence(&[0]),
+        ..plain()
+    };
+    assert_valid(&never_both(sheet()), 1);
+    assert_invalid(&perhaps_both(sheet()), 1, &[2, 0, 1]);
+    let failing = never_both(Sheet {
+        goal: not_known(fact(0)),
+        ..sheet()
+    });
+    assert_invalid(&failing, 1, &[2, 0, 1]);
+    assert_eq!(check(&encode(&failing), &[2, 0, 3]), Checked::No);
+    assert_eq!(check(&encode(&failing), &[3, 0, 1]), Checked::No);
+}
+
+#[test]
+fn the_least_trace_has_no_excluded_state() {
+    // Fact 0 or fact 1; state 0 would be the least at the start and after the change.
+    let sheet = Sheet {
+        facts: 2,
+        actions: vec![Action::Change(Objective::True), test(fact(0))],
+        goal: known(fact(0)),
+        program: sequence(&[0, 1]),
+        ..plain()
+    };
+    let some = sheet.clone().constrained(fact(0).or(fact(1)));
+    assert_invalid(&some, 3, &[1, 0, 2, 9, 2]);
+    assert_invalid(&sheet, 3, &[0, 0, 0, 9, 0]);
+}
+
+#[test]
+fn replies_true_only_in_excluded_states_are_impossible() {
+    let both = fact(0).and(fact(1));
+    let sheet = || Sheet {
+        actions: vec![Action::Probe(vec![both.clone(), Objective::True])],
+        program: sequence(&[0, 0]),
+        ..plain()
+    };
+    assert_valid(&never_both(sheet()), 2);
+    assert_valid(&perhaps_both(sheet()), 6);
+    let (record, _) = Record::load(&encode(&never_both(sheet())));
+    assert_eq!(record.report(0).1, Err(Refusal::Impossible));
+    let (record, _) = Record::load(&encode(&perhaps_both(sheet())));
+    assert_eq!(record.report(0).1, Ok(()));
+}
+
+#[test]
+fn what_the_constraint_says_is_known() {
+    // The condition holds by the constraint alone, so the then-program is taken.
+    let sheet = || Sheet {
+        actions: vec![Action::Change(new(0).and(new(1).negate()))],
+        goal: known(fact(0)),
+        program: Program::branch(
+            known(fact(0).and(fact(1)).negate()),
+            sequence(&[0]),
+            Program::End,
+            Program::End,
+        ),
+        ..plain()
+    };
+    assert_valid(&never_both(sheet()), 1);
+    assert_invalid(&perhaps_both(sheet()), 0, &[0]);
 }
 
 #[test]

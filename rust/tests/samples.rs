@@ -6,11 +6,13 @@ use std::fs;
 use std::path::PathBuf;
 
 use common::{
-    decided, fact, known, new, not_known, nots, plain, sequence, stays, test, unhex, verdict,
+    decided, fact, known, new, not_known, nots, plain, sequence, stays, test, unbits, unhex,
+    verdict,
 };
 use reference::encode::encode;
 use reference::print::lines;
 use reference::read::read;
+use reference::refusal::Refusal;
 use reference::sheet::{Action, Epistemic, Objective, Program, Sheet, MAX_TRACE};
 use reference::verify::{verify, Answer};
 
@@ -149,6 +151,63 @@ fn case_16() -> Sheet {
     }
 }
 
+/// Trunk live is fact 0 and standby live fact 1. Action 0 probes the trunk, action 1
+/// makes it live and says nothing of the standby.
+fn trunk_and_standby(constraint: Objective) -> Sheet {
+    Sheet {
+        facts: 2,
+        actions: vec![test(fact(0)), Action::Change(new(0))],
+        goal: known(fact(0)).and(known(fact(1).negate())),
+        program: Program::act(
+            0,
+            Program::branch(known(fact(0)), Program::End, sequence(&[1]), Program::End),
+        ),
+        ..plain()
+    }
+    .constrained(constraint)
+}
+
+fn never_both_live() -> Sheet {
+    trunk_and_standby(fact(0).and(fact(1)).negate())
+}
+
+fn both_may_be_live() -> Sheet {
+    trunk_and_standby(Objective::True)
+}
+
+fn no_state() -> Sheet {
+    Sheet {
+        start: Objective::False,
+        ..plain()
+    }
+    .constrained(fact(0).and(fact(0).negate()))
+}
+
+/// One fact, one action, which is done, and the goal that the fact is known.
+fn one_action(constraint: Objective, action: Action) -> Sheet {
+    Sheet {
+        actions: vec![action],
+        ..case_2()
+    }
+    .constrained(constraint)
+}
+
+fn stuck_outside() -> Sheet {
+    one_action(fact(0), Action::Change(fact(0)))
+}
+
+fn leads_outside() -> Sheet {
+    one_action(fact(0).negate(), Action::Change(new(0)))
+}
+
+fn silent_outside() -> Sheet {
+    one_action(fact(0), Action::Probe(vec![fact(0)]))
+}
+
+fn silent_inside() -> Sheet {
+    one_action(fact(0).negate(), Action::Probe(vec![fact(0)]))
+}
+
 /// Each case's name, bytes and output.
 fn cases() -> Vec<(&'static str, Vec<u8>, &'static str)> {
     let with = |mut bytes: Vec<u8>, last: u8| {
@@ -162,7 +221,7 @@ fn cases() -> Vec<(&'static str, Vec<u8>, &'static str)> {
         ("03", with(first.clone(), 1), "refused 12\n"),
         ("04", [first, vec![0]].concat(), "refused 12\n"),
         ("05", vec![], "refused 2\n"),
-        ("06", vec![0x21], "refused 3\n"),
+        ("06", vec![0x41], "refused 3\n"),
         ("07", vec![0x10], "refused 4\n"),
         ("08", vec![0x19], "refused 4\n"),
         ("09", encode(&case_9()), "valid 7\n"),
@@ -174,6 +233,18 @@ fn cases() -> Vec<(&'static str, Vec<u8>, &'static str)> {
         ("14b", encode(&case_14(17)), "refused 8\n"),
         ("15", encode(&case_15()), "refused 13\n"),
         ("16", encode(&case_16()), "refused 15\n"),
+        ("never-both-live", encode(&never_both_live()), "valid 3\n"),
+        (
+            "both-may-be-live",
+            encode(&both_may_be_live()),
+            "invalid 1 1\n01 00 01\n",
+        ),
+        ("no-state", encode(&no_state()), "refused 16\n"),
+        ("cut-constraint", vec![0x21], "refused 2\n"),
+        ("stuck-outside", encode(&stuck_outside()), "valid 1\n"),
+        ("leads-outside", encode(&leads_outside()), "refused 14\n"),
+        ("silent-outside", encode(&silent_outside()), "valid 1\n"),
+        ("silent-inside", encode(&silent_inside()), "refused 15\n"),
     ]
 }
 
@@ -181,6 +252,26 @@ fn cases() -> Vec<(&'static str, Vec<u8>, &'static str)> {
 fn printed_bytes() {
     assert_eq!(encode(&case_1()), unhex("11 0C 90 88 1C 40 88 20 00"));
     assert_eq!(encode(&case_2()), unhex("11 0C 90 88 11 04 00"));
+    let head = "0010 0010";
+    let never = "100 101 010 000 010 001";
+    let rest = "00010 1 0010 010 000 100 010 000 0 011 000 001 10 00 010 000 00 100 010 001
+        01 00000 10 00 010 000 00 01 00001 00 00";
+    let bits = [head, never, rest].concat();
+    assert_eq!(encode(&never_both_live()), unbits(&bits));
+    let bits = [head, "001", rest].concat();
+    assert_eq!(encode(&both_may_be_live()), unbits(&bits));
+}
+
+/// The same sheets with the constraint true.
+#[test]
+fn without_the_constraint() {
+    let free =
+        |sheet: Sheet| verdict(&encode(&sheet.clone().constrained(Objective::True)), BUDGET).0;
+    assert_eq!(free(stuck_outside()), Answer::Refused(Refusal::NoNextState));
+    assert_eq!(free(silent_outside()), Answer::Refused(Refusal::NoReply));
+    assert_eq!(free(no_state()), Answer::Refused(Refusal::NoStartState));
+    assert_eq!(free(leads_outside()), Answer::Valid { count: 1 });
+    assert_eq!(free(silent_inside()), Answer::Refused(Refusal::NoReply));
 }
 
 #[test]
@@ -218,6 +309,10 @@ fn accepted_cases_read_back() {
         case_11(),
         case_12(),
         case_14(16),
+        never_both_live(),
+        both_may_be_live(),
+        stuck_outside(),
+        silent_outside(),
     ];
     for sheet in sheets {
         assert_eq!(read(&encode(&sheet)), Ok(sheet));

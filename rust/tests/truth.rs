@@ -4,7 +4,7 @@ mod common;
 
 use common::{fact, known, new, not_known, plain, stays};
 use reference::sheet::{Action, Objective, Sheet};
-use reference::states::{is_state, states, StateSet};
+use reference::states::{excluded, is_state, states, StateSet};
 use reference::step::{effect, gather, keep, replies, start_states, step};
 use reference::truth::{holds, holds_between, holds_knowing};
 
@@ -65,6 +65,19 @@ fn a_change_frees_what_it_does_not_mention() {
 }
 
 #[test]
+fn a_change_leads_to_states_only() {
+    let sheet = Sheet {
+        facts: 2,
+        ..plain()
+    };
+    let sheet = sheet.constrained(fact(0).and(fact(1)).negate());
+    let make = Action::Change(new(0));
+    assert_eq!(gather(&sheet, &make, &set(&[0, 2])), set(&[1]));
+    let free = Action::Change(Objective::True);
+    assert_eq!(gather(&sheet, &free, &set(&[2])), set(&[0, 1, 2]));
+}
+
+#[test]
 fn a_probe_keeps_states() {
     let sheet = Sheet {
         facts: 2,
@@ -104,6 +117,26 @@ fn spaces_and_sets() {
         assert_eq!(start_states(&sheet).iter().collect::<Vec<u8>>(), expected);
         for byte in 0..=255 {
             assert_eq!(is_state(&sheet, byte), u16::from(byte) <= last);
+        }
+    }
+    let two = Sheet {
+        facts: 2,
+        ..plain()
+    };
+    for (constraint, expected, out) in [
+        (Objective::True, &[0, 1, 2, 3][..], &[][..]),
+        (Objective::False, &[], &[0, 1, 2, 3]),
+        (fact(0).and(fact(1)).negate(), &[0, 1, 2], &[3]),
+        (fact(0).or(fact(1)), &[1, 2, 3], &[0]),
+        (fact(0).iff(fact(1)), &[0, 3], &[1, 2]),
+        (fact(1), &[2, 3], &[0, 1]),
+    ] {
+        let sheet = two.clone().constrained(constraint);
+        assert_eq!(states(&sheet).collect::<Vec<u8>>(), expected);
+        assert_eq!(start_states(&sheet).iter().collect::<Vec<u8>>(), expected);
+        assert_eq!(excluded(&sheet), out);
+        for byte in 0..=255 {
+            assert_eq!(is_state(&sheet, byte), expected.contains(&byte));
         }
     }
     let scattered = set(&[255, 0, 64, 63, 127]);

@@ -93,6 +93,7 @@ fn short_memory_comes_before_all_else() {
         vec![],
         vec![0; 1025],
         unhex("21"),
+        unhex("41"),
     ];
     for bytes in sheets {
         for length in [0, 1, 32, MAX_TRACE - 1] {
@@ -166,11 +167,11 @@ fn the_verifier_agrees_with_execution() {
     let size = Size {
         facts: (3, 8),
         action_nodes: 20,
-        sequence: (4, 12),
+        sequence: (6, 14),
         ..Size::LARGE
     };
     let (mut stopped, mut valid, mut invalid) = (0, 0, 0);
-    for _ in 0..150 {
+    for _ in 0..200 {
         let sheet = good(&mut random, &size);
         let budget = 60;
         let mut visited = Visited {
@@ -200,7 +201,10 @@ fn the_verifier_agrees_with_execution() {
             valid += 1;
         }
     }
-    assert!(stopped > 10 && valid > 10 && invalid > 10);
+    assert!(
+        stopped > 10 && valid > 10 && invalid > 10,
+        "{stopped} {valid} {invalid}"
+    );
 }
 
 #[test]

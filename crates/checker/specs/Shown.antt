@@ -42,7 +42,7 @@ module _ (heads nodes sets : List ℕ) where
 -- Examples, evaluated.
 -- One fact, which action 0 asks for. The start formula is true, and the goal is that the fact is known.
 asks : Program → Sheet
-asks program = record { facts = 1; actions = probe (fact 0 ∷ negation (fact 0) ∷ []) ∷ []; start = top; goal = known (fact 0); program = program }
+asks program = record { facts = 1; constraint = top; actions = probe (fact 0 ∷ negation (fact 0) ∷ []) ∷ []; start = top; goal = known (fact 0); program = program }
 
 shown : Program → (trace : List ℕ) → Bool
 unfolding asks sheetHeads nodeCells setWords settled showsBy

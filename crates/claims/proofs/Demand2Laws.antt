@@ -18,11 +18,11 @@ use Rattle.claims.proofs.Contracts.{Contracts}
 use Rattle.claims.proofs.TableLaws.{carried-states, action-told, end-told}
 
 -- What an answer without its value says of the answer.
-accepted-exactly : {A : Type 0} (x : Answer A) (a : Answer (Unit {0})) → a ≡ withoutValue x → (a ≡ gives tt) ↔ ((y : A) × (x ≡ gives y))
+pub accepted-exactly : {A : Type 0} (x : Answer A) (a : Answer (Unit {0})) → a ≡ withoutValue x → (a ≡ gives tt) ↔ ((y : A) × (x ≡ gives y))
 unfolding withoutValue
 accepted-exactly x a e = (λ k. was-accepted x (sym k ∙ e), λ q. e ∙ ap withoutValue (q .1))
 
-refused-exactly : {A : Type 0} (x : Answer A) (a : Answer (Unit {0})) → a ≡ withoutValue x → (n : ℕ) → (a ≡ refused n) ↔ (x ≡ refused n)
+pub refused-exactly : {A : Type 0} (x : Answer A) (a : Answer (Unit {0})) → a ≡ withoutValue x → (n : ℕ) → (a ≡ refused n) ↔ (x ≡ refused n)
 unfolding withoutValue
 refused-exactly x a e n = (λ k. was-refused x n (sym k ∙ e), λ q. e ∙ ap withoutValue q)
 

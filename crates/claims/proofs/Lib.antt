@@ -7,5 +7,6 @@ pub mod Demand1Laws
 pub mod TableLaws
 pub mod Demand2Laws
 pub mod Demand3Laws
+pub mod ConstraintLaws
 pub mod SupportLaws
 pub mod Theorem

@@ -1,23 +1,26 @@
 -- Calls on the tables that a call of `prepare` left in memory do what the sheet says: the set to which steps come, the place at which the routine settles, and what is known.
 -- Assumes nothing.
-use Prim.Native.Nat.{ℕ, _+_, _≤_}
+use Prim.Native.Nat.{ℕ, _+_, _≤_, _<_}
 use native.Mathlib.Omega.{arith}
 use mathlib.Core.Path.{_≡_, sym, ap, subst, _∙_}
 use mathlib.Core.Logic.{_⊎_, inl, inr, _↔_}
 use mathlib.Core.List.{List, [], _∷_, _++_, List·Memᴰ}
-use mathlib.Core.Bool.{Bool, true}
+use mathlib.Core.Bool.{Bool, true, _&&_}
+use lib.ListN.{length}
+use Rattle.lists.specs.Lists.{exists}
+use Rattle.lists.proofs.ListLaws.{both-true, and-both, exists-mem, mem-exists}
 use Rattle.states.specs.declared.States.{States}
 use Rattle.states.specs.Sets.{member, setOf, members, words, ofWords}
 use Rattle.states.proofs.SetLaws.{members-mem, mem-members, words-back}
-use Rattle.format.specs.Syntax.{Objective, known, Sheet}
-use Rattle.format.specs.Truth.{holds}
+use Rattle.format.specs.Syntax.{Objective, known, Sheet, actionOf}
+use Rattle.format.specs.Truth.{isState, states, holds, allowed}
 use Rattle.format.specs.Format.{Answer, gives, givenOr, reading}
-use Rattle.format.proofs.StateLaws.{state-byte}
+use Rattle.format.proofs.StateLaws.{state-byte, state-listed}
 use Rattle.format.proofs.SheetLaws.{accepted-shape}
-use Rattle.semantics.specs.Runs.{Entry, entry, History, extended, replies, IsRun, lastState, Known, Holds, holdsAfter}
+use Rattle.semantics.specs.Runs.{Entry, entry, History, extended, step, replies, IsRun, lastState, Known, Holds, holdsAfter}
 use Rattle.semantics.specs.Routine.{perform, routine, Follows, isFull}
 use Rattle.semantics.specs.Replies.{leftAfter}
-use Rattle.semantics.specs.Progression.{possible, startSet, setAfter}
+use Rattle.semantics.specs.Progression.{possible, startSet, nextSet, setAfter}
 use Rattle.semantics.proofs.RunLaws.{tested-holds, holds-tested}
 use Rattle.semantics.proofs.ProgressionLaws.{possible-run, run-possible, set-states}
 use Rattle.semantics.proofs.ReplyLaws.{isDone, full-left, left-next, next-follows}
@@ -84,6 +87,33 @@ module _ {ℓ} (library : Library {ℓ}) (contracts : Contracts library) {sheet 
       step-is before a r set s ∙ ap (λ (u : States). stepped heads sets u a r) (carried-set g before c)
       ∙ tabled-step sheet few heads nodes sets tabled (setAfter sheet (startSet sheet) g) (set-states sheet g) a l r ∙ ap setOf (sym (after-more sheet (startSet sheet) g (entry a r)))
 
+  carried-member : (h : History) (set : List ℕ) → Carried library m h set → (t : ℕ) → member (ofWords set) t ≡ setAfter sheet (startSet sheet) h t
+  carried-member h set c t = ap (λ (u : States). member u t) (carried-set h set c) ∙ member-states sheet few (setAfter sheet (startSet sheet) h) (set-states sheet h) t
+
+  -- A step leads to the states to which a state of the set leads.
+  module _ (h : History) (set : List ℕ) (c : Carried library m h set) (a r : ℕ) (l : a < length (sheet .actions)) (next : List ℕ) (g : StepGave library m set a r next) (t : ℕ) where
+    leads : ℕ → Bool
+    leads s = setAfter sheet (startSet sheet) h s && step sheet (entry a r) s t
+
+    led : member (ofWords next) t ≡ (isState sheet t && exists leads (states sheet))
+    unfolding nextSet leads
+    led = carried-member (extended h a r) next (onward a r c l g) t ∙ ap (λ (f : ℕ → Bool). f t) (after-more sheet (startSet sheet) h (entry a r))
+
+    pub carried-step : (member (ofWords next) t ≡ true) ↔ ((isState sheet t ≡ true) × ((s : ℕ) × (member (ofWords set) s ≡ true) × (allowed (actionOf sheet a) s r t ≡ true)))
+    unfolding leads step
+    carried-step = (
+      λ e.
+          let b = both-true (isState sheet t) (exists leads (states sheet)) (sym led ∙ e) in
+          let w = exists-mem leads (states sheet) (b .1) in
+          let x = both-true (setAfter sheet (startSet sheet) h (w .0)) (step sheet (entry a r) (w .0) t) (w .2) in
+          (b .0, (w .0, carried-member h set c (w .0) ∙ x .0, x .1)),
+      λ w.
+          let s = w .1 .0 in
+          let there = sym (carried-member h set c s) ∙ w .1 .1 in
+          led ∙ and-both (isState sheet t) (exists leads (states sheet)) (w .0)
+          (mem-exists leads (states sheet) (state-listed sheet s (set-states sheet h s there)) (and-both (setAfter sheet (startSet sheet) h s) (step sheet (entry a r) s t) there (w .1 .2))),
+    )
+
   -- Its states are the last states of the runs with the history; what a formula's table says of it is what holds in all of them.
   pub carried-states : (h : History) (set : List ℕ) → Carried library m h set
       → (t : ℕ) → (member (ofWords set) t ≡ true) ↔ ((run : List ℕ) × IsRun sheet h run × (lastState run ≡ t))
@@ -92,12 +122,9 @@ module _ {ℓ} (library : Library {ℓ}) (contracts : Contracts library) {sheet 
       same : members (ofWords set) ≡ possible sheet h
       same = ap members (carried-set h set c) ∙ members-possible sheet few h
 
-      isMember : member (ofWords set) t ≡ setAfter sheet (startSet sheet) h t
-      isMember = ap (λ (u : States). member u t) (carried-set h set c) ∙ member-states sheet few (setAfter sheet (startSet sheet) h) (set-states sheet h) t
-
       there : member (ofWords set) t ≡ true → (run : List ℕ) × IsRun sheet h run × (lastState run ≡ t)
       there k =
-          let l = state-byte sheet few t (set-states sheet h t (sym isMember ∙ k)) in
+          let l = state-byte sheet few t (set-states sheet h t (sym (carried-member h set c t) ∙ k)) in
           possible-run sheet h (subst (List·Memᴰ t) same (mem-members (ofWords set) t l k))
 
       back : (run : List ℕ) × IsRun sheet h run × (lastState run ≡ t) → member (ofWords set) t ≡ true

@@ -18,6 +18,7 @@ use Rattle.claims.proofs.Demand1Laws as laws
 use Rattle.claims.proofs.SupportLaws as supports
 use Rattle.claims.proofs.Demand2Laws.{demand2}
 use Rattle.claims.proofs.Demand3Laws.{demand3}
+use Rattle.claims.proofs.ConstraintLaws.{constraint}
 
 module _ {M : Type 1} (𝓤 : URA M) (H : Heap 𝓤) (𝓜 : Model 𝓤 H) (𝓖 : GhostRules 𝓤 H) where
   abbrev library : Library {1}
@@ -102,6 +103,7 @@ demands M 𝓤 H 𝓜 𝓖 = record {
   demand1 = demand1 𝓤 H 𝓜 𝓖;
   demand2 = demand2 (linked 𝓤 H 𝓜) (contracts 𝓤 H 𝓜 𝓖);
   demand3 = demand3 (linked 𝓤 H 𝓜) (contracts 𝓤 H 𝓜 𝓖);
+  constraint = constraint (linked 𝓤 H 𝓜) (contracts 𝓤 H 𝓜 𝓖);
   support = support 𝓤 H 𝓜 𝓖;
 }
 

@@ -4,5 +4,6 @@ pub mod Terms
 pub mod Demand1
 pub mod Demand2
 pub mod Demand3
+pub mod Constraint
 pub mod Support
 pub mod Theorem

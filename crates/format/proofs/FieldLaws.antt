@@ -7,7 +7,8 @@ use native.Mathlib.Omega.{arith}
 use lib.Dec.{leb, eqb}
 use borrow.Author.Tests.{le-leb, lt-leb, le-ltb, lt-ltb}
 use Rattle.lists.specs.Lists.{if_then_else_}
-use Rattle.format.specs.Format.{got, fault, andThen, _>>=_, give, refuse, check, field, mostFacts, mostReplies, mostActs, mostBranches, changes, probes, kind, replyTotal, known-node, not-known-node, all-of-node, any-of-node, epistemicNode, end-node, act-node, branch-node, programNode, header}
+use Rattle.format.specs.Syntax.{Objective, top}
+use Rattle.format.specs.Format.{got, fault, andThen, _>>=_, give, refuse, check, field, mostFacts, mostReplies, mostActs, mostBranches, deepest, objective, constraintOver, changes, probes, kind, replyTotal, known-node, not-known-node, all-of-node, any-of-node, epistemicNode, end-node, act-node, branch-node, programNode, headerBehind, header}
 
 -- The test "1 to 8".
 module _ (m : ℕ) where
@@ -23,7 +24,35 @@ module _ (m : ℕ) where
   pub above-eight : 8 < m → leb 1 m && leb m 8 ≡ false
   above-eight h = let l : 1 ≤ m = omega arith in rw (le-leb 1 m l, lt-leb m 8 h)
 
--- The header, by its three fields.
+-- The constraint: edition 2 has one, and another edition is read as with the constraint "true".
+module _ (edition n : ℕ) (bytes : List ℕ) (p : ℕ) where
+  pub constraint-stands : eqb edition 2 ≡ true → constraintOver edition n bytes p ≡ objective n false deepest bytes p
+  unfolding constraintOver if_then_else_
+  constraint-stands e = rw e
+
+  pub constraint-absent : eqb edition 2 ≡ false → constraintOver edition n bytes p ≡ got top p
+  unfolding constraintOver if_then_else_ give
+  constraint-absent e = rw e
+
+-- A header behind its number of facts.
+module _ (edition n : ℕ) (bytes : List ℕ) (p : ℕ) where
+  -- One whose constraint is refused is refused as that is.
+  pub constraint-refused : {r : ℕ} → constraintOver edition n bytes p ≡ fault r → headerBehind edition n bytes p ≡ fault r
+  unfolding headerBehind _>>=_ andThen
+  constraint-refused c = rw c
+
+  module _ {constraint : Objective} {q : ℕ} (c : constraintOver edition n bytes p ≡ got constraint q) where
+    -- One that ends inside its number of actions is refused as the field is.
+    pub actions-cut : {r : ℕ} → field 5 bytes q ≡ fault r → headerBehind edition n bytes p ≡ fault r
+    unfolding headerBehind _>>=_ andThen
+    actions-cut l = rw (c, l)
+
+    -- Otherwise it gives the numbers and the constraint.
+    pub header-got : {k r : ℕ} → field 5 bytes q ≡ got k r → headerBehind edition n bytes p ≡ got (record { edition = edition; facts = n; constraint = constraint; actions = k }) r
+    unfolding headerBehind _>>=_ andThen give
+    header-got l = rw (c, l)
+
+-- The header, by its fields.
 module _ (takes : ℕ → Bool) (bytes : List ℕ) where
   -- A header that ends inside its edition is refused as the field is.
   pub edition-cut : {r : ℕ} → field 4 bytes 0 ≡ fault r → header takes bytes 0 ≡ fault r
@@ -48,15 +77,10 @@ module _ (takes : ℕ → Bool) (bytes : List ℕ) where
         unfolding header _>>=_ andThen check refuse
         facts-out u = rw (e, t, h, u)
 
-        -- A header that ends inside its number of actions is refused as the field is.
-        pub actions-cut : {i : ℕ} → leb 1 n && leb n mostFacts ≡ true → field 5 bytes r ≡ fault i → header takes bytes 0 ≡ fault i
+        -- Otherwise it is what stands behind.
+        pub header-goes-on : leb 1 n && leb n mostFacts ≡ true → header takes bytes 0 ≡ headerBehind edition n bytes r
         unfolding header _>>=_ andThen check
-        actions-cut u l = rw (e, t, h, u, l)
-
-        -- Otherwise it gives both numbers.
-        pub header-got : {k i : ℕ} → leb 1 n && leb n mostFacts ≡ true → field 5 bytes r ≡ got k i → header takes bytes 0 ≡ got (record { edition = edition; facts = n; actions = k }) i
-        unfolding header _>>=_ andThen check give
-        header-got u l = rw (e, t, h, u, l)
+        header-goes-on u = rw (e, t, h, u)
 
 -- The kind of an action and the reply count of a probe.
 module _ (bytes : List ℕ) (p : ℕ) where

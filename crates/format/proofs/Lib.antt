@@ -6,4 +6,5 @@ pub mod FieldLaws
 pub mod SheetLaws
 pub mod StandingLaws
 pub mod FaultLaws
+pub mod RefusalLaws
 pub mod Cases

@@ -8,11 +8,11 @@ use native.Mathlib.Omega.{arith}
 use lib.Dec.{leb, ltb, eqb}
 use lib.ListN.{length, getD, List·getD-eq-default}
 use borrow.Author.Tests.{leb-true, ltb-true, ltb-false, eq-eqb}
-use Rattle.lists.specs.Lists.{if_then_else_, upFrom, below, exists}
+use Rattle.lists.specs.Lists.{if_then_else_, upFrom, below, exists, nonempty}
 use Rattle.lists.proofs.ListLaws.{not-both, both-true, and-both, mem-flat, every-mem, mem-every, exists-mem, mem-exists}
 use Rattle.format.specs.Syntax.{Objective, bottom, top, fact, new-fact, negation, conjunction, disjunction, equivalence, Epistemic, known, not-known, all-of, any-of, Program, end, act, branch, Action, change, probe, replyCount, actionNodes, branchNodes, Sheet, actionOf}
 use Rattle.format.specs.Truth.{isState, states, truth, holds, moves, replyHolds, allowed}
-use Rattle.format.specs.Format.{gives, refused, Read, got, fault, Reader, andThen, _>>=_, give, field, factNumber, objectiveBehind, objective, EpistemicNode, known-node, not-known-node, all-of-node, any-of-node, epistemicNode, epistemicBehind, epistemic, objectives, Kind, changes, probes, kind, replyTotal, theoryOver, repliesOver, actionBehind, action, actionList, ProgramRead, ProgramNode, end-node, act-node, branch-node, programNode, programBehind, programWithin, levels, program, mostBytes, mostFacts, mostReplies, deepest, mostActs, mostBranches, Header, header, body, sheetFields, isPadding, hasStart, leadsOn, hasReply, unless, actionFaults, faults, decided, afterFields, ofSheet, readingBy, isEdition, reading}
+use Rattle.format.specs.Format.{gives, refused, Read, got, fault, Reader, andThen, _>>=_, give, field, factNumber, objectiveBehind, objective, EpistemicNode, known-node, not-known-node, all-of-node, any-of-node, epistemicNode, epistemicBehind, epistemic, objectives, Kind, changes, probes, kind, replyTotal, theoryOver, repliesOver, actionBehind, action, actionList, ProgramRead, ProgramNode, end-node, act-node, branch-node, programNode, programBehind, programWithin, levels, program, mostBytes, mostFacts, mostReplies, deepest, mostActs, mostBranches, Header, constraintOver, headerBehind, header, body, sheetFields, isPadding, hasStart, leadsOn, hasReply, unless, actionFaults, faults, decided, afterFields, ofSheet, readingBy, isEdition, reading, Says}
 use Rattle.format.proofs.StateLaws.{state-listed, listed-state}
 use Rattle.format.proofs.FormatLaws.{Gives, gives-give, gives-refuse, gives-if, gives-check, gives-behind, gives-any, field-below, NumbersBelow, Counts, program-counts}
 
@@ -89,13 +89,14 @@ pub record HeaderShape (h : Header) : Type 0 where
   pub actions-most : h .actions ≤ 31
 
 pub header-shape : (takes : ℕ → Bool) → Gives HeaderShape (header takes)
-unfolding header
+unfolding header headerBehind
 header-shape takes =
     gives-any HeaderShape (field 4) _ (λ edition. gives-check HeaderShape (takes edition) 3 _ (λ t.
     gives-any HeaderShape (field 4) _ (λ n. gives-check HeaderShape (leb 1 n && leb n mostFacts) 4 _ (λ u.
+    gives-any HeaderShape (constraintOver edition n) _ (λ constraint.
     gives-behind (λ k. k < 32) HeaderShape (field 5) _ (field-below 5) (λ k few.
     let v = both-true (leb 1 n) (leb n mostFacts) u in
-    gives-give HeaderShape _ (record { facts-some = leb-true 1 n (v .0); facts-most = leb-true n mostFacts (v .1); actions-most = omega arith }))))))
+    gives-give HeaderShape _ (record { facts-some = leb-true 1 n (v .0); facts-most = leb-true n mostFacts (v .1); actions-most = omega arith })))))))
 
 -- A program with all its levels.
 pub program-is : (n k : ℕ) (bytes : List ℕ) (p : ℕ) → program n k bytes p ≡ programWithin n k levels 0 0 bytes p
@@ -123,15 +124,26 @@ fields-shape takes =
       numbers = rw (l .0) (i .numbers);
     }))))))
 
--- How bytes are accepted: they are few enough, the fields give the sheet, and none of the tests after them fails.
-pub record Accepted (bytes : List ℕ) (sheet : Sheet) : Type 0 where
-  pub short : length bytes ≤ mostBytes
-  pub position : ℕ
-  pub fields : sheetFields isEdition bytes 0 ≡ got sheet position
-  pub faultless : faults actionFaults bytes position sheet ≡ []
+-- A test whose number isn't there has passed.
+passed-unless : (b : Bool) (r : ℕ) → (List·Memᴰ r (unless b r) → ⊥) → b ≡ true
+unfolding unless
+passed-unless true r h = refl
+passed-unless false r h = absurd (h (List·Memᴰ·head refl))
+
+-- Where no test after the fields fails, padding follows them.
+no-padding-fault : (bytes : List ℕ) (sheet : Sheet) (p : ℕ) → faults actionFaults bytes p sheet ≡ [] → isPadding bytes p ≡ true
+unfolding faults
+no-padding-fault bytes sheet p none =
+    passed-unless (isPadding bytes p) 12 (λ m.
+    List·Memᴰ·not-nil (subst (λ (rs : List ℕ). List·Memᴰ 12 rs) none (Memᴰ·append-left _ (Memᴰ·append-left _ (Memᴰ·append-left (unless (nonempty (states sheet)) 16) m)))))
+
+-- How bytes are accepted: they say the sheet, and none of the tests after its fields fails.
+record Accepted (bytes : List ℕ) (sheet : Sheet) : Type 0 where
+  says : Says bytes sheet
+  faultless : faults actionFaults bytes (says .ends) sheet ≡ []
 
 -- Accepted bytes are accepted so.
-pub accepted-how : (bytes : List ℕ) (sheet : Sheet) → reading bytes ≡ gives sheet → Accepted bytes sheet
+accepted-how : (bytes : List ℕ) (sheet : Sheet) → reading bytes ≡ gives sheet → Accepted bytes sheet
 unfolding reading readingBy ofSheet afterFields decided if_then_else_
 accepted-how bytes sheet e = go (leb (length bytes) mostBytes) refl (sheetFields isEdition bytes 0) refl e
   where
@@ -144,7 +156,7 @@ accepted-how bytes sheet e = go (leb (length bytes) mostBytes) refl (sheetFields
     go true l (fault r) f k = let z : _≡_ {A = ℕ} 0 1 = cc in absurd (omega arith)
     go true l (got x p) f k =
         let w = last x p (faults actionFaults bytes p x) refl k in
-        subst (Accepted bytes) (w .0) (record { short = leb-true (length bytes) mostBytes l; position = p; fields = f; faultless = w .1 })
+        subst (Accepted bytes) (w .0) (record { says = record { short = leb-true (length bytes) mostBytes l; ends = p; fields = f; padded = no-padding-fault bytes x p (w .1) }; faultless = w .1 })
 
 -- What the bytes are, by the header and the fields behind it.
 module _ (bytes : List ℕ) where
@@ -185,13 +197,16 @@ module _ (bytes : List ℕ) where
         go true j = rw j
         go false j = let z : _≡_ {A = ℕ} 0 1 = cc in absurd (omega arith)
 
--- Accepted bytes are at most 1,024.
+-- Accepted bytes say the sheet, and are at most 1,024.
+pub accepted-says : (bytes : List ℕ) (sheet : Sheet) → reading bytes ≡ gives sheet → Says bytes sheet
+accepted-says bytes sheet e = accepted-how bytes sheet e .says
+
 pub accepted-length : (bytes : List ℕ) (sheet : Sheet) → reading bytes ≡ gives sheet → length bytes ≤ mostBytes
-accepted-length bytes sheet e = accepted-how bytes sheet e .short
+accepted-length bytes sheet e = accepted-says bytes sheet e .short
 
 -- An accepted sheet keeps the limits.
 pub accepted-shape : (bytes : List ℕ) (sheet : Sheet) → reading bytes ≡ gives sheet → Shape sheet
-accepted-shape bytes sheet e = let how = accepted-how bytes sheet e in fields-shape isEdition bytes 0 sheet (how .position) (how .fields)
+accepted-shape bytes sheet e = let says = accepted-says bytes sheet e in fields-shape isEdition bytes 0 sheet (says .ends) (says .fields)
 
 -- What the tests after the fields tell: there is a start state, and in each state each action has a next state and a reply.
 pub record Passed (sheet : Sheet) : Type 0 where
@@ -199,24 +214,11 @@ pub record Passed (sheet : Sheet) : Type 0 where
   pub leads : (a : Action) → List·Memᴰ a (sheet .actions) → leadsOn (states sheet) (moves a) ≡ true
   pub answered : (a : Action) → List·Memᴰ a (sheet .actions) → hasReply (states sheet) a ≡ true
 
--- A test whose number isn't there has passed.
-passed-unless : (b : Bool) (r : ℕ) → (List·Memᴰ r (unless b r) → ⊥) → b ≡ true
-unfolding unless
-passed-unless true r h = refl
-passed-unless false r h = absurd (h (List·Memᴰ·head refl))
-
--- Behind the fields of an accepted sheet is padding.
-pub accepted-padding : (bytes : List ℕ) (sheet : Sheet) (how : Accepted bytes sheet) → isPadding bytes (how .position) ≡ true
-unfolding faults
-accepted-padding bytes sheet how =
-    passed-unless (isPadding bytes (how .position)) 12 (λ m.
-    List·Memᴰ·not-nil (subst (λ (rs : List ℕ). List·Memᴰ 12 rs) (how .faultless) (Memᴰ·append-left _ (Memᴰ·append-left (unless (hasStart (states sheet) (sheet .start)) 13) m))))
-
 -- An accepted sheet has passed the tests.
 pub accepted-passed : (bytes : List ℕ) (sheet : Sheet) → reading bytes ≡ gives sheet → Passed sheet
 unfolding faults actionFaults
 accepted-passed bytes sheet e = record {
-  start = passed-unless (hasStart (states sheet) (sheet .start)) 13 (λ m. none (Memᴰ·append-left (flatMap each (sheet .actions)) (Memᴰ·append-right padding m)));
+  start = passed-unless (hasStart (states sheet) (sheet .start)) 13 (λ m. none (Memᴰ·append-left (flatMap each (sheet .actions)) (Memᴰ·append-right (padding ++ space) m)));
   leads = λ a i. passed-unless (leadsOn (states sheet) (moves a)) 14 (λ m. none-of i (Memᴰ·append-left (unless (hasReply (states sheet) a) 15) m));
   answered = λ a i. passed-unless (hasReply (states sheet) a) 15 (λ m. none-of i (Memᴰ·append-right (unless (leadsOn (states sheet) (moves a)) 14) m));
 }
@@ -225,16 +227,19 @@ accepted-passed bytes sheet e = record {
     how = accepted-how bytes sheet e
 
     padding : List ℕ
-    padding = unless (isPadding bytes (how .position)) 12
+    padding = unless (isPadding bytes (how .says .ends)) 12
+
+    space : List ℕ
+    space = unless (nonempty (states sheet)) 16
 
     each : Action → List ℕ
     each = actionFaults (states sheet)
 
-    none : {r : ℕ} → List·Memᴰ r (padding ++ unless (hasStart (states sheet) (sheet .start)) 13 ++ flatMap each (sheet .actions)) → ⊥
+    none : {r : ℕ} → List·Memᴰ r (padding ++ space ++ unless (hasStart (states sheet) (sheet .start)) 13 ++ flatMap each (sheet .actions)) → ⊥
     none {r} m = List·Memᴰ·not-nil (subst (λ (rs : List ℕ). List·Memᴰ r rs) (how .faultless) m)
 
     none-of : {a : Action} {r : ℕ} → List·Memᴰ a (sheet .actions) → List·Memᴰ r (each a) → ⊥
-    none-of i m = none (Memᴰ·append-right (padding ++ unless (hasStart (states sheet) (sheet .start)) 13) (mem-flat each (sheet .actions) i m))
+    none-of i m = none (Memᴰ·append-right (padding ++ space ++ unless (hasStart (states sheet) (sheet .start)) 13) (mem-flat each (sheet .actions) i m))
 
 -- Of a change only the test that refuses with 14 can fail, since its reply 0 is true in every state; and of a probe only the test that refuses with 15, since it leaves each
 -- state as it is.
@@ -341,6 +346,7 @@ ProgramFacts n (branch f p q rest) = EpistemicFacts n f × ProgramFacts n p × P
 
 -- The formulas of a sheet mention its facts only, and new facts in theories only.
 pub record SheetFacts (sheet : Sheet) : Type 0 where
+  pub constraint-facts : ObjectiveFacts (sheet .facts) (sheet .constraint)
   pub action-facts : (a : Action) → List·Memᴰ a (sheet .actions) → ActionFacts (sheet .facts) a
   pub start-facts : ObjectiveFacts (sheet .facts) (sheet .start)
   pub goal-facts : EpistemicFacts (sheet .facts) (sheet .goal)
@@ -456,15 +462,31 @@ module _ (n : ℕ) where
   unfolding program
   program-facts k = routine-facts k levels 0 0
 
+-- The constraint mentions the facts of the header only, and no new fact.
+abbrev HeaderFacts : Header → Type 0
+HeaderFacts h = ObjectiveFacts (h .facts) (h .constraint)
+
+constraint-facts : (edition n : ℕ) → Gives (ObjectiveFacts n) (constraintOver edition n)
+unfolding constraintOver FactsBelow NoNew
+constraint-facts edition n = gives-if (ObjectiveFacts n) (eqb edition 2) _ _ (objective-facts n deepest) (gives-give (ObjectiveFacts n) top (tt, tt))
+
+header-facts : (takes : ℕ → Bool) → Gives HeaderFacts (header takes)
+unfolding header headerBehind
+header-facts takes =
+    gives-any HeaderFacts (field 4) _ (λ edition. gives-check HeaderFacts (takes edition) 3 _ (λ t.
+    gives-any HeaderFacts (field 4) _ (λ n. gives-check HeaderFacts (leb 1 n && leb n mostFacts) 4 _ (λ u.
+    gives-behind (ObjectiveFacts n) HeaderFacts (constraintOver edition n) _ (constraint-facts edition n) (λ constraint hc.
+    gives-any HeaderFacts (field 5) _ (λ k. gives-give HeaderFacts _ hc))))))
+
 fields-facts : (takes : ℕ → Bool) → Gives SheetFacts (sheetFields takes)
 fields-facts takes =
-    gives-any SheetFacts (header takes) body (λ h.
+    gives-behind HeaderFacts SheetFacts (header takes) body (header-facts takes) (λ h hh.
     gives-behind (λ actions. (a : Action) → List·Memᴰ a actions → ActionFacts (h .facts) a) SheetFacts (actionList (h .facts) (h .actions)) _ (list-facts (h .facts) (h .actions)) (λ actions ha.
     gives-behind (ObjectiveFacts (h .facts)) SheetFacts (objective (h .facts) false deepest) _ (objective-facts (h .facts) deepest) (λ start hs.
     gives-behind (EpistemicFacts (h .facts)) SheetFacts (epistemic (h .facts) deepest) _ (epistemic-facts (h .facts) deepest) (λ goal hg.
     gives-behind (λ c. ProgramFacts (h .facts) (c .program)) SheetFacts (program (h .facts) (h .actions)) _ (program-facts (h .facts) (h .actions)) (λ c hc.
-    gives-give SheetFacts _ (record { action-facts = ha; start-facts = hs; goal-facts = hg; program-facts = hc }))))))
+    gives-give SheetFacts _ (record { constraint-facts = hh; action-facts = ha; start-facts = hs; goal-facts = hg; program-facts = hc }))))))
 
 -- The formulas of an accepted sheet mention its facts only, and new facts in theories only.
 pub accepted-facts : (bytes : List ℕ) (sheet : Sheet) → reading bytes ≡ gives sheet → SheetFacts sheet
-accepted-facts bytes sheet e = let how = accepted-how bytes sheet e in fields-facts isEdition bytes 0 sheet (how .position) (how .fields)
+accepted-facts bytes sheet e = let says = accepted-says bytes sheet e in fields-facts isEdition bytes 0 sheet (says .ends) (says .fields)

@@ -10,11 +10,11 @@ use borrow.Author.Tests.{ltb-true}
 use Rattle.lists.proofs.ListLaws.{both-true}
 use Rattle.format.proofs.ReaderLaws.{Levels, read-levels}
 use Rattle.format.specs.Syntax.{Objective, Epistemic, known, not-known, all-of, any-of, Program, end, act, branch, Action, change, probe, Sheet}
-use Rattle.format.specs.Format.{gives, got, Reader, deepest, objective, EpistemicNode, known-node, not-known-node, all-of-node, any-of-node, epistemicNode, epistemicBehind, epistemic, objectives, Kind, changes, probes, kind, replyTotal, theoryOver, repliesOver, actionBehind, action, actionList, ProgramRead, ProgramNode, end-node, act-node, branch-node, programNode, programBehind, programWithin, levels, program, header, body, isEdition, sheetFields, isPadding, mostBytes, mostReplies, mostActs, mostBranches, reading}
+use Rattle.format.specs.Format.{gives, got, Reader, field, deepest, objective, EpistemicNode, known-node, not-known-node, all-of-node, any-of-node, epistemicNode, epistemicBehind, epistemic, objectives, Kind, changes, probes, kind, replyTotal, theoryOver, repliesOver, actionBehind, action, actionList, ProgramRead, ProgramNode, end-node, act-node, branch-node, programNode, programBehind, programWithin, levels, program, Header, constraintOver, headerBehind, header, body, isEdition, sheetFields, isPadding, mostBytes, mostFacts, mostReplies, mostActs, mostBranches, reading, Says}
 use Rattle.format.specs.Standing.{ObjectiveAt, RepliesAt, ActionAt, ActionsAt, EpistemicAt, ProgramAt, Standing}
 use Rattle.format.proofs.FormatLaws.{Finds, finds-give, finds-refuse, finds-if, finds-check, finds-behind, finds-field, got-behind, node-anywhere}
 use Rattle.format.proofs.FormulaLaws.{objective-levels, objective-onward}
-use Rattle.format.proofs.SheetLaws.{objectives-long, list-few, accepted-how, accepted-padding}
+use Rattle.format.proofs.SheetLaws.{objectives-long, list-few, accepted-says}
 
 module _ (bytes : List ℕ) (n : ℕ) where
   -- Replies that are read stand there.
@@ -275,8 +275,34 @@ fields-standing bytes short =
     Q : Sheet → ℕ → Type 0
     Q sheet q = isPadding bytes q ≡ true → Standing bytes sheet
 
--- The parts of an accepted sheet stand in its bytes.
+-- The parts of a sheet stand in the bytes that say it, and so those of an accepted sheet.
+says-standing : (bytes : List ℕ) (sheet : Sheet) → Says bytes sheet → Standing bytes sheet
+says-standing bytes sheet says = fields-standing bytes (says .short) .found sheet (says .ends) (says .fields) (says .padded)
+
 pub accepted-standing : (bytes : List ℕ) (sheet : Sheet) → reading bytes ≡ gives sheet → Standing bytes sheet
-accepted-standing bytes sheet e =
-    let how = accepted-how bytes sheet e in
-    fields-standing bytes (how .short) .found sheet (how .position) (how .fields) (accepted-padding bytes sheet how)
+accepted-standing bytes sheet e = says-standing bytes sheet (accepted-says bytes sheet e)
+
+-- The fields of a header that is read: the edition, the number of facts, the constraint straight after it, and the number of actions.
+pub record HeaderFields (bytes : List ℕ) (h : Header) (q : ℕ) : Type 0 where
+  pub edition-read : field 4 bytes 0 ≡ got (h .edition) 4
+  pub edition-taken : isEdition (h .edition) ≡ true
+  pub facts-read : field 4 bytes 4 ≡ got (h .facts) 8
+  pub constraint-end : ℕ
+  pub constraint-read : constraintOver (h .edition) (h .facts) bytes 8 ≡ got (h .constraint) constraint-end
+  pub actions-read : field 5 bytes constraint-end ≡ got (h .actions) q
+
+header-fields : (bytes : List ℕ) → Finds bytes 0 (λ h q. HeaderFields bytes h q) (header isEdition)
+unfolding header headerBehind
+header-fields bytes =
+    finds-field bytes 0 Q 4 4 refl _ (λ edition e low. finds-check bytes 4 Q (isEdition edition) 3 _ (λ t.
+    finds-field bytes 4 Q 4 8 refl _ (λ n f low′. finds-check bytes 8 Q (leb 1 n && leb n mostFacts) 4 _ (λ u.
+    finds-behind bytes 8 Q (constraintOver edition n) _ (λ constraint i g.
+    finds-behind bytes i Q (field 5) _ (λ k q l.
+    finds-give bytes q Q _ (record { edition-read = e; edition-taken = t; facts-read = f; constraint-end = i; constraint-read = g; actions-read = l })))))))
+  where
+    Q : Header → ℕ → Type 0
+    Q h q = HeaderFields bytes h q
+
+-- Of a sheet.
+pub says-header : (bytes : List ℕ) (sheet : Sheet) → Says bytes sheet → (edition q : ℕ) × HeaderFields bytes (record { edition = edition; facts = sheet .facts; constraint = sheet .constraint; actions = length (sheet .actions) }) q
+says-header bytes sheet says = let s = says-standing bytes sheet says in (s .edition, s .actions-at, header-fields bytes .found _ (s .actions-at) (s .header-read))

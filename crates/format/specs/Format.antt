@@ -1,10 +1,11 @@
 -- The packed format: what a list of bytes says, or the number of its refusal. Document 01, "The sheet" and "From the sheet".
-use Prim.Native.Nat.{ℕ, zero, suc, _+_, _-_, _*_}
+use Prim.Native.Nat.{ℕ, zero, suc, _+_, _-_, _*_, _≤_}
+use mathlib.Core.Path.{_≡_}
 use mathlib.Core.List.{List, [], _∷_, _++_, flatMap}
-use mathlib.Core.Bool.{Bool, true, false, _&&_}
+use mathlib.Core.Bool.{Bool, true, false, _&&_, _||_}
 use lib.ListN.{length}
 use lib.Dec.{leb, ltb, eqb}
-use Rattle.lists.specs.Lists.{if_then_else_, upFrom, below, every, exists}
+use Rattle.lists.specs.Lists.{if_then_else_, upFrom, below, every, exists, nonempty}
 use Rattle.format.specs.Syntax.{Objective, bottom, top, fact, new-fact, negation, conjunction, disjunction, equivalence, Epistemic, known, not-known, all-of, any-of, Program, end, act, branch, Action, change, probe, replyCount, Sheet}
 use Rattle.format.specs.Truth.{states, holds, moves, replyHolds}
 use Rattle.format.specs.Bits.{bitsAt}
@@ -243,23 +244,35 @@ unfoldable pub program : (n k : ℕ) → Reader ProgramRead
 unfolding programWithin
 program n k = programWithin n k levels 0 0
 
--- What the header says: the edition, the number of facts and the number of actions. (Of one edition there is nothing to decide behind it.)
+-- What the header says: the edition, the number of facts, the constraint and the number of actions. (Behind it nothing depends on the edition.)
 pub record Header : Type 0 where
   pub edition : ℕ
   pub facts : ℕ
+  pub constraint : Objective
   pub actions : ℕ
 
--- "edition, 4 bits, value 1; number of facts n, 4 bits, 1 to 8", "number of actions A, 5 bits, 0 to 31". `takes` tells the editions that are read.
--- 3: another edition; 4: n is not 1 to 8.
+-- The constraint over n facts. Document 02: "Edition 2 of the sheet has an objective formula, the constraint, straight after n." "Edition 1 sheets read as with the constraint
+-- true."
+unfoldable pub constraintOver : (edition n : ℕ) → Reader Objective
+unfolding objective give if_then_else_
+constraintOver edition n = if eqb edition 2 then objective n false deepest else give top
+
+-- A header behind n: the constraint, "number of actions A, 5 bits, 0 to 31".
+unfoldable pub headerBehind : (edition n : ℕ) → Reader Header
+unfolding constraintOver field _>>=_ give
+headerBehind edition n = do
+  constraint ← constraintOver edition n
+  k ← field 5
+  give (record { edition = edition; facts = n; constraint = constraint; actions = k })
+
+-- "edition, 4 bits", "number of facts n, 4 bits, 1 to 8", and what stands behind. `takes` tells the editions that are read. 3: another edition; 4: n is not 1 to 8.
 unfoldable pub header : (takes : ℕ → Bool) → Reader Header
-unfolding field check _>>=_ give
+unfolding field check headerBehind _>>=_
 header takes = do
   edition ← field 4
   check (takes edition) 3 do
     n ← field 4
-    check (leb 1 n && leb n mostFacts) 4 do
-      k ← field 5
-      give (record { edition = edition; facts = n; actions = k })
+    check (leb 1 n && leb n mostFacts) 4 (headerBehind edition n)
 
 -- The fields behind the header: "then A actions, numbered from 0", "start formula (objective), goal (epistemic), program"; and all fields.
 abbrev pub body : Header → Reader Sheet
@@ -268,7 +281,7 @@ body h = do
   start ← objective (h .facts) false deepest
   goal ← epistemic (h .facts) deepest
   counted ← program (h .facts) (h .actions)
-  give (record { facts = h .facts; actions = actions; start = start; goal = goal; program = counted .program })
+  give (record { facts = h .facts; constraint = h .constraint; actions = actions; start = start; goal = goal; program = counted .program })
 
 abbrev pub sheetFields : (takes : ℕ → Bool) → Reader Sheet
 sheetFields takes = header takes >>= body
@@ -283,12 +296,14 @@ unfoldable pub hasStart : (space : List ℕ) (start : Objective) → Bool
 unfolding exists holds
 hasStart space start = exists (holds start) space
 
--- "A theory must allow some next state from each of the 2^n states." (2012, 2013: fully executable.) `allows` tells the next states of a state.
+-- "A theory must allow some next state from each of the 2^n states", of which document 02 leaves those that satisfy the constraint. (2012, 2013: fully executable.) `allows`
+-- tells the next states of a state.
 unfoldable pub leadsOn : (space : List ℕ) (allows : (s t : ℕ) → Bool) → Bool
 unfolding every exists
 leadsOn space allows = every (λ s. exists (λ t. allows s t) space) space
 
--- "In each of the 2^n states some reply of a probe must be true". (2013: feedbacks are exhaustive; 2012 has no such rule. A change's reply 0 is.)
+-- "In each of the 2^n states some reply of a probe must be true", of those that satisfy the constraint. (2013: feedbacks are exhaustive; 2012 has no such rule. A change's
+-- reply 0 is.)
 unfoldable pub hasReply : (space : List ℕ) → Action → Bool
 unfolding every exists replyHolds upFrom replyCount
 hasReply space a = every (λ s. exists (λ r. replyHolds a r s) (below (replyCount a))) space
@@ -303,11 +318,11 @@ unfoldable pub actionFaults : (space : List ℕ) → Action → List ℕ
 unfolding leadsOn moves hasReply unless
 actionFaults space a = unless (leadsOn space (moves a)) 14 ++ unless (hasReply space a) 15
 
--- The numbers of the tests that fail after the fields, in order: "12 a set padding bit or a spare byte; 13 no start state"; "then 14 or 15 by action number". `tests` gives
--- those that fail for an action.
+-- The numbers of the tests that fail after the fields, in order: "12 a set padding bit or a spare byte"; document 02's "16, no state satisfies the constraint, tested after 12
+-- and before 13"; "13 no start state"; "then 14 or 15 by action number". `tests` gives those that fail for an action.
 unfoldable pub faults : (tests : (space : List ℕ) → Action → List ℕ) (bytes : List ℕ) (p : ℕ) → Sheet → List ℕ
-unfolding isPadding hasStart states unless flatMap
-faults tests bytes p sheet = unless (isPadding bytes p) 12 ++ unless (hasStart (states sheet) (sheet .start)) 13 ++ flatMap (tests (states sheet)) (sheet .actions)
+unfolding isPadding nonempty hasStart states unless flatMap
+faults tests bytes p sheet = unless (isPadding bytes p) 12 ++ unless (nonempty (states sheet)) 16 ++ unless (hasStart (states sheet) (sheet .start)) 13 ++ flatMap (tests (states sheet)) (sheet .actions)
 
 -- The first of them decides.
 unfoldable pub decided : {A : Type 0} → List ℕ → A → Answer A
@@ -329,10 +344,17 @@ unfoldable pub readingBy : (takes : ℕ → Bool) (tests : (space : List ℕ) �
 unfolding ofSheet header actionList objective epistemic program _>>=_ give afterFields
 readingBy takes tests bytes = afterFields tests bytes (ofSheet (sheetFields takes) bytes 0)
 
--- Edition 1, "value 1", with both tests.
+-- Edition 1, "value 1", and document 02's edition 2, with both tests.
 unfoldable pub isEdition : ℕ → Bool
-isEdition edition = eqb edition 1
+isEdition edition = eqb edition 1 || eqb edition 2
 
 unfoldable pub reading : (bytes : List ℕ) → Answer Sheet
 unfolding readingBy isEdition actionFaults
 reading bytes = readingBy isEdition actionFaults bytes
+
+-- The bytes say a sheet, whether or not its states pass the tests: no number up to 12 applies.
+pub record Says (bytes : List ℕ) (sheet : Sheet) : Type 0 where
+  pub short : length bytes ≤ mostBytes
+  pub ends : ℕ
+  pub fields : sheetFields isEdition bytes 0 ≡ got sheet ends
+  pub padded : isPadding bytes ends ≡ true

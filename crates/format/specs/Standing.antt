@@ -66,7 +66,7 @@ pub record Standing (bytes : List ℕ) (sheet : Sheet) : Type 0 where
   pub short : length bytes ≤ mostBytes
   pub actions-at : ℕ
   pub edition : ℕ
-  pub header-read : header isEdition bytes 0 ≡ got (record { edition = edition; facts = sheet .facts; actions = length (sheet .actions) }) actions-at
+  pub header-read : header isEdition bytes 0 ≡ got (record { edition = edition; facts = sheet .facts; constraint = sheet .constraint; actions = length (sheet .actions) }) actions-at
   pub start-at : ℕ
   pub goal-at : ℕ
   pub program-at : ℕ

@@ -43,9 +43,10 @@ unfoldable pub replyCount : Action → ℕ
 replyCount (change theory) = 1
 replyCount (probe replies) = length replies
 
--- A sheet. Its actions are numbered from 0.
+-- A sheet. Its states satisfy its constraint (document 02); its actions are numbered from 0.
 pub record Sheet : Type 0 where
   pub facts : ℕ
+  pub constraint : Objective
   pub actions : List Action
   pub start : Objective
   pub goal : Epistemic

@@ -7,24 +7,6 @@ use lib.ListN.{getD}
 use Rattle.lists.specs.Lists.{upFrom, below, keep}
 use Rattle.format.specs.Syntax.{Objective, bottom, top, fact, new-fact, negation, conjunction, disjunction, equivalence, Action, change, probe, Sheet}
 
--- "A state is a byte: fact i has weight 2^i, weights of facts n and above are absent." Whether a number is a state over n facts: every other definition goes by this test.
-unfoldable pub inSpace : (n s : ℕ) → Bool
-inSpace n s = ltb s (2 ^ n)
-
--- The states over n facts, in order. (All are below 2^n.)
-unfoldable pub spaceOf : (n : ℕ) → List ℕ
-unfolding upFrom keep inSpace
-spaceOf n = keep (inSpace n) (below (2 ^ n))
-
--- Those of a sheet.
-unfoldable pub isState : Sheet → ℕ → Bool
-unfolding inSpace
-isState sheet s = inSpace (sheet .facts) s
-
-unfoldable pub states : Sheet → List ℕ
-unfolding spaceOf
-states sheet = spaceOf (sheet .facts)
-
 -- Whether a fact is true in a state.
 unfoldable pub factIn : (s i : ℕ) → Bool
 factIn s i = eqb (s / 2 ^ i % 2) 1
@@ -45,6 +27,26 @@ truth (equivalence f g) s t = Bool·beq (truth f s t) (truth g s t)
 unfoldable pub holds : Objective → ℕ → Bool
 unfolding truth
 holds f s = truth f s s
+
+-- "A state is a byte: fact i has weight 2^i, weights of facts n and above are absent." Document 02: "States are then only those that satisfy" the constraint.
+-- Whether a number is a state over n facts: every other definition goes by this test.
+unfoldable pub inSpace : (n : ℕ) (constraint : Objective) (s : ℕ) → Bool
+unfolding holds
+inSpace n constraint s = ltb s (2 ^ n) && holds constraint s
+
+-- The states over n facts, in order. (All are below 2^n.)
+unfoldable pub spaceOf : (n : ℕ) (constraint : Objective) → List ℕ
+unfolding upFrom keep inSpace
+spaceOf n constraint = keep (inSpace n constraint) (below (2 ^ n))
+
+-- Those of a sheet.
+unfoldable pub isState : Sheet → ℕ → Bool
+unfolding inSpace
+isState sheet s = inSpace (sheet .facts) (sheet .constraint) s
+
+unfoldable pub states : Sheet → List ℕ
+unfolding spaceOf
+states sheet = spaceOf (sheet .facts) (sheet .constraint)
 
 -- Whether a theory mentions fact i as new.
 unfoldable pub mentionsNew : (theory : Objective) (i : ℕ) → Bool

@@ -25,6 +25,19 @@ same-test false false p q = refl
 pub not-both : {b : Bool} {A : Type 0} → b ≡ true → b ≡ false → A
 not-both p q = let z : _≡_ {A = ℕ} 0 1 = cc in absurd (omega arith)
 
+-- One that can't pass fails, and one that can't fail passes.
+pub is-false : (b : Bool) → (b ≡ true → ⊥) → b ≡ false
+is-false true h = absurd (h refl)
+is-false false h = refl
+
+pub is-true : (b : Bool) → (b ≡ false → ⊥) → b ≡ true
+is-true true h = refl
+is-true false h = absurd (h refl)
+
+pub and-true : (b : Bool) → b ≡ (b && true)
+and-true true = refl
+and-true false = refl
+
 pub both-true : (a b : Bool) → a && b ≡ true → (a ≡ true) × (b ≡ true)
 both-true true b e = (refl, e)
 both-true false b e = let z : _≡_ {A = ℕ} 0 1 = cc in absurd (omega arith)
@@ -82,6 +95,15 @@ module _ {A : Type 0} where
   unfolding every
   mem-every test [] h = refl
   mem-every test (x ∷ xs) h = and-both (test x) (every test xs) (h x (List·Memᴰ·head refl)) (mem-every test xs (λ a m. h a (List·Memᴰ·tail m)))
+
+  pub every-fails : (test : A → Bool) (xs : List A) → every test xs ≡ false → (a : A) × List·Memᴰ a xs × (test a ≡ false)
+  unfolding every
+  every-fails test [] h = let z : _≡_ {A = ℕ} 0 1 = cc in absurd (omega arith)
+  every-fails test (x ∷ xs) h = go (λ k. every-fails test xs k) (test x) refl h
+    where
+      go : (every test xs ≡ false → (a : A) × List·Memᴰ a xs × (test a ≡ false)) → (b : Bool) → test x ≡ b → b && every test xs ≡ false → (a : A) × List·Memᴰ a (x ∷ xs) × (test a ≡ false)
+      go below true e k = let r = below k in (r .0, List·Memᴰ·tail (r .1), r .2)
+      go below false e k = (x, List·Memᴰ·head refl, e)
 
   pub exists-mem : (test : A → Bool) (xs : List A) → exists test xs ≡ true → (a : A) × List·Memᴰ a xs × (test a ≡ true)
   unfolding exists

@@ -132,6 +132,7 @@ stepped heads sets set action reply = keptBy sets (headAt heads action) (effect 
 small : Sheet
 small = record {
   facts = 1;
+  constraint = top;
   actions = change top ∷ probe (fact 0 ∷ negation (fact 0) ∷ []) ∷ [];
   start = top;
   goal = known (fact 0);
@@ -166,7 +167,7 @@ goal-holds = refl
 judgedBy : Epistemic → States → Place
 unfolding small nodeCells settled setWords
 judgedBy goal set =
-    let sheet : Sheet = record { facts = 1; actions = []; start = top; goal = goal; program = end } in
+    let sheet : Sheet = record { facts = 1; constraint = top; actions = []; start = top; goal = goal; program = end } in
     settled (nodeCells sheet) (setWords sheet) set 0
 
 -- "And" wants both parts, "or" one; the second part decides where the first doesn't.

@@ -1,6 +1,6 @@
 -- What the code reads and tests tells what `reading` does: the fields behind the header, and the tests behind these. Assumes nothing.
 use Prim.Native.Nat.{ℕ, _-_, _*_, _≤_, _<_}
-use mathlib.Core.Path.{_≡_, refl, sym, ap, _∙_}
+use mathlib.Core.Path.{_≡_, refl, sym, ap, ap₂, _∙_}
 use mathlib.Core.List.{List, [], _∷_, flatMap}
 use mathlib.Core.Bool.{Bool, true, false, _&&_}
 use native.Mathlib.Omega.{arith}
@@ -20,15 +20,11 @@ use Rattle.format.proofs.FormatLaws.{Finds, finds-give, finds-behind, behind-go
 use Rattle.format.proofs.ReaderLaws.{mapped-got, mapped-fault, mapped-give}
 use Rattle.format.proofs.SheetLaws.{program-is, reading-refused, header-short, header-limits, reading-body}
 use Rattle.format.proofs.StateLaws.{space-bytes}
-use Rattle.reader.specs.Answers.{withoutValue, spaced, statesIn}
-use Rattle.reader.specs.Method.{passedTo, ending, counts, startStates}
+use Rattle.reader.specs.Answers.{withoutValue, spaceSet, HeaderKept, spaced, keptOf, statesIn}
+use Rattle.reader.specs.Method.{passedTo, ending, counts, headerOf, startStates}
+use Rattle.reader.specs.declared.layout.Header.{Header as HeaderValue}
 use Rattle.reader.specs.declared.formula.View.{View}
 use Rattle.reader.specs.declared.formula.Walked.{Walked}
-
--- A header with its states.
-pub header-spaced : (h : Header) (space : States) (p : ℕ) (o : Read Header) → space ≡ setOf (inSpace (h .facts)) → got h p ≡ o → got (h, space) p ≡ mapped spaced o
-unfolding spaced mapped
-header-spaced h space p o e f = ap (λ (x : States). got (h, x) p) e ∙ ap (mapped spaced) f
 
 -- The bits that are left after a position: none, fewer than eight, or more.
 module _ (bytes : List ℕ) (p : ℕ) where
@@ -75,7 +71,7 @@ module _ (h : Header) (bytes : List ℕ) (p : ℕ) where
             let z = mapped-got ending (epistemic (h .facts) deepest bytes i) g in
             ap (mapped startStates) (behind-got (actionList (h .facts) (h .actions)) _ bytes p (x .1) ∙ behind-got (objective (h .facts) false deepest) _ bytes q (y .1)
             ∙ behind-got (epistemic (h .facts) deepest) _ bytes i (z .1))
-            ∙ mapped-give startStates (program (h .facts) (h .actions)) (λ c. record { facts = h .facts; actions = x .0; start = y .0; goal = z .0; program = c .program }) bytes j
+            ∙ mapped-give startStates (program (h .facts) (h .actions)) (λ c. record { facts = h .facts; constraint = h .constraint; actions = x .0; start = y .0; goal = z .0; program = c .program }) bytes j
             ∙ ap (λ (s : States). mapped (λ (c : ProgramRead). s) (program (h .facts) (h .actions) bytes j)) (y .2)
             ∙ ap (mapped (λ (c : ProgramRead). set)) (program-is (h .facts) (h .actions) bytes j)
 
@@ -87,11 +83,12 @@ module _ (h : Header) (bytes : List ℕ) (p : ℕ) where
         unfolding mapped
         body-got k = program-left ∙ ap (mapped (λ (c : ProgramRead). set)) (mapped-got counts (programWithin (h .facts) (h .actions) levels 0 0 bytes j) k .1)
 
-  -- What was read behind the header: its actions, over its facts.
+  -- What was read behind the header: its actions, over its facts and under its constraint.
   pub record BodyRead (sheet : Sheet) : Type 0 where
     pub actions-end : ℕ
     pub actions-read : actionList (h .facts) (h .actions) bytes p ≡ got (sheet .actions) actions-end
     pub facts-are : sheet .facts ≡ h .facts
+    pub constraint-is : sheet .constraint ≡ h .constraint
 
   body-read : Finds bytes p (λ sheet q. BodyRead sheet) (body h)
   body-read =
@@ -99,7 +96,7 @@ module _ (h : Header) (bytes : List ℕ) (p : ℕ) where
       finds-behind bytes i _ (objective (h .facts) false deepest) _ (λ start j f.
       finds-behind bytes j _ (epistemic (h .facts) deepest) _ (λ goal l g.
       finds-behind bytes l _ (program (h .facts) (h .actions)) _ (λ c q k.
-      finds-give bytes q _ _ (record { actions-end = i; actions-read = e; facts-are = refl })))))
+      finds-give bytes q _ _ (record { actions-end = i; actions-read = e; facts-are = refl; constraint-is = refl })))))
 
 -- The states of a space and those in which a formula holds have one in common exactly if the formula holds in some state of the space.
 pub common-start : (space : States) (f : Objective) → exists (holds f) (members space) ≡ nonempty (members (setOf (λ s. member (statesIn View.States f) s && member space s)))
@@ -127,8 +124,9 @@ common-start space f = same-test (exists (holds f) (members space)) (nonempty (m
         mem-exists (holds f) (members space) (mem-members space (w .0) (m .0) (b .1)) (sym (member-setOf (λ s. truth f s s) (w .0) (m .0)) ∙ b .0)
 
 -- The members of the set of the states over n facts are these states.
-pub space-members : (n : ℕ) → n ≤ mostFacts → members (setOf (inSpace n)) ≡ spaceOf n
-space-members n few = members-setOf (inSpace n) ∙ space-bytes n few
+space-members : (n : ℕ) (constraint : Objective) → n ≤ mostFacts → members (spaceSet n constraint) ≡ spaceOf n constraint
+unfolding spaceSet
+space-members n constraint few = members-setOf (inSpace n constraint) ∙ space-bytes n constraint few
 
 -- Which test fails first doesn't depend on the value.
 same-decision : {A B : Type 0} (xs : List ℕ) (a : A) (b : B) → withoutValue (decided xs a) ≡ withoutValue (decided xs b)
@@ -138,69 +136,88 @@ same-decision (x ∷ xs) a b = refl
 
 -- The tests behind the fields, as the code makes them.
 module _ (h : Header) (few : h .facts ≤ mostFacts) (bytes : List ℕ) (p : ℕ) (sheet : Sheet) (q : ℕ) (read : body h bytes p ≡ got sheet q) where
-  space-is : states sheet ≡ members (setOf (inSpace (h .facts)))
-  unfolding states
-  space-is = ap spaceOf (body-read h bytes p .found sheet q read .facts-are) ∙ sym (space-members (h .facts) few)
-
   pub unpadded : isPadding bytes q ≡ false → withoutValue (decided (faults actionFaults bytes q sheet) sheet) ≡ refused 12
   unfolding faults unless decided withoutValue
   unpadded e = rw e
 
-  module _ (padded : isPadding bytes q ≡ true) {common : States} (e : common ≡ setOf (λ s. member (startStates sheet) s && member (setOf (inSpace (h .facts))) s)) where
-    has-start : hasStart (states sheet) (sheet .start) ≡ nonempty (members common)
-    unfolding hasStart startStates
-    has-start =
-        ap (exists (holds (sheet .start))) space-is ∙ common-start (setOf (inSpace (h .facts))) (sheet .start) ∙ ap (λ (x : States). nonempty (members x)) (sym e)
-
-    pub startless : nonempty (members common) ≡ false → withoutValue (decided (faults actionFaults bytes q sheet) sheet) ≡ refused 13
-    unfolding faults unless decided withoutValue
-    startless f = rw (padded, has-start, f)
-
-    -- The tests of the actions decide.
-    pub actions-tested : nonempty (members common) ≡ true → (r : Walked)
-        → ((actions : List Action) (end : ℕ) → actionList (h .facts) (h .actions) bytes p ≡ got actions end
-        → passedTo r ≡ decided (flatMap (actionFaults (members (setOf (inSpace (h .facts))))) actions) end)
-        → withoutValue (passedTo r) ≡ withoutValue (decided (faults actionFaults bytes q sheet) sheet)
-    unfolding faults unless
-    actions-tested some r tested =
+  module _ (padded : isPadding bytes q ≡ true) {space : States} (s : space ≡ spaceSet (h .facts) (h .constraint)) where
+    space-is : states sheet ≡ members space
+    unfolding states
+    space-is =
         let b = body-read h bytes p .found sheet q read in
-        ap withoutValue (tested (sheet .actions) (b .actions-end) (b .actions-read))
-        ∙ ap (λ (x : List ℕ). withoutValue (decided (flatMap (actionFaults x) (sheet .actions)) (b .actions-end))) (sym space-is)
-        ∙ rw (padded, has-start, some) (same-decision (flatMap (actionFaults (states sheet)) (sheet .actions)) (b .actions-end) sheet)
+        ap₂ spaceOf (b .facts-are) (b .constraint-is) ∙ sym (ap members s ∙ space-members (h .facts) (h .constraint) few)
 
--- The whole, by what the code's header says.
+    has-state : nonempty (states sheet) ≡ nonempty (members space)
+    has-state = ap nonempty space-is
+
+    pub stateless : nonempty (members space) ≡ false → withoutValue (decided (faults actionFaults bytes q sheet) sheet) ≡ refused 16
+    unfolding faults unless decided withoutValue
+    stateless e = rw (padded, has-state, e)
+
+    module _ (some : nonempty (members space) ≡ true) {common : States} (e : common ≡ setOf (λ s. member (startStates sheet) s && member space s)) where
+      has-start : hasStart (states sheet) (sheet .start) ≡ nonempty (members common)
+      unfolding hasStart startStates
+      has-start = ap (exists (holds (sheet .start))) space-is ∙ common-start space (sheet .start) ∙ ap (λ (x : States). nonempty (members x)) (sym e)
+
+      pub startless : nonempty (members common) ≡ false → withoutValue (decided (faults actionFaults bytes q sheet) sheet) ≡ refused 13
+      unfolding faults unless decided withoutValue
+      startless f = rw (padded, has-state, some, has-start, f)
+
+      -- The tests of the actions decide.
+      pub actions-tested : nonempty (members common) ≡ true → (r : Walked)
+          → ((actions : List Action) (end : ℕ) → actionList (h .facts) (h .actions) bytes p ≡ got actions end → passedTo r ≡ decided (flatMap (actionFaults (members space)) actions) end)
+          → withoutValue (passedTo r) ≡ withoutValue (decided (faults actionFaults bytes q sheet) sheet)
+      unfolding faults unless
+      actions-tested starts r tested =
+          let b = body-read h bytes p .found sheet q read in
+          ap withoutValue (tested (sheet .actions) (b .actions-end) (b .actions-read))
+          ∙ ap (λ (x : List ℕ). withoutValue (decided (flatMap (actionFaults x) (sheet .actions)) (b .actions-end))) (sym space-is)
+          ∙ rw (padded, has-state, some, has-start, starts) (same-decision (flatMap (actionFaults (states sheet)) (sheet .actions)) (b .actions-end) sheet)
+
+-- The whole, by what the code keeps of the header.
 module _ (bytes : List ℕ) where
   -- A header that is refused.
   pub no-header : {r : ℕ} → mapped spaced (ofSheet (header isEdition) bytes 0) ≡ fault r → withoutValue (reading bytes) ≡ refused r
   unfolding withoutValue
   no-header e = ap withoutValue (reading-refused bytes (mapped-fault spaced (ofSheet (header isEdition) bytes 0) e))
 
-  module _ {h : Header} {space : States} {p : ℕ} (e : mapped spaced (ofSheet (header isEdition) bytes 0) ≡ got (h, space) p) where
-    header-is : (ofSheet (header isEdition) bytes 0 ≡ got h p) × (space ≡ setOf (inSpace (h .facts)))
-    unfolding spaced
-    header-is =
-        let w = mapped-got spaced (ofSheet (header isEdition) bytes 0) e in
-        let same : w .0 ≡ h = ap (λ (x : Header × States). x .0) (w .2) in
-        (w .1 ∙ ap (λ (x : Header). got x p) same, sym (ap (λ (x : Header × States). x .1) (w .2)) ∙ ap (λ (x : Header). setOf (inSpace (x .facts))) same)
+  module _ (h : HeaderValue) (e : mapped spaced (ofSheet (header isEdition) bytes 0) ≡ got (keptOf h) (h .at)) where
+    abbrev found : (x : Header) × (ofSheet (header isEdition) bytes 0 ≡ got x (h .at)) × (spaced x ≡ keptOf h)
+    found = mapped-got spaced (ofSheet (header isEdition) bytes 0) e
+
+    -- One that is read has a constraint,
+    abbrev constraint : Objective
+    constraint = found .0 .constraint
+
+    header-is : ofSheet (header isEdition) bytes 0 ≡ got (headerOf h constraint) (h .at)
+    unfolding spaced keptOf headerOf
+    header-is = found .1 ∙ ap (λ (x : HeaderKept). got (record { edition = x .edition; facts = x .facts; constraint = constraint; actions = x .actions }) (h .at)) (found .2)
+
+    -- whose states are kept.
+    read-space : h .space ≡ spaceSet (h .facts) constraint
+    unfolding spaced keptOf
+    read-space = sym (ap (λ (x : HeaderKept). x .space) (found .2)) ∙ ap (λ (x : HeaderKept). spaceSet (x .facts) constraint) (found .2)
 
     pub read-short : length bytes ≤ mostBytes
-    read-short = header-short bytes (header-is .0)
+    read-short = header-short bytes header-is
 
     pub read-limits : h .facts ≤ mostFacts
-    read-limits = header-limits bytes (header-is .0) .facts-most
+    unfolding headerOf
+    read-limits = header-limits bytes header-is .facts-most
 
-    pub read-space : space ≡ setOf (inSpace (h .facts))
-    read-space = header-is .1
-
-    -- The fields behind it are refused.
-    pub no-body : {r : ℕ} → mapped startStates (body h bytes p) ≡ fault r → withoutValue (reading bytes) ≡ refused r
+    -- What the fields behind it are: a refusal,
+    pub no-body : {r : ℕ} → ((c : Objective) → mapped startStates (body (headerOf h c) bytes (h .at)) ≡ fault r) → withoutValue (reading bytes) ≡ refused r
     unfolding withoutValue afterFields
-    no-body f = ap withoutValue (reading-body bytes (header-is .0)) ∙ ap (λ (x : Read Sheet). withoutValue (afterFields actionFaults bytes x)) (mapped-fault startStates (body h bytes p) f)
+    no-body f =
+        ap withoutValue (reading-body bytes header-is)
+        ∙ ap (λ (x : Read Sheet). withoutValue (afterFields actionFaults bytes x)) (mapped-fault startStates (body (headerOf h constraint) bytes (h .at)) (f constraint))
 
-    -- They are read, and tested.
-    pub read-tested : {start : States} {q : ℕ} {a : Answer (Unit {0})} → mapped startStates (body h bytes p) ≡ got start q
-        → ((sheet : Sheet) → body h bytes p ≡ got sheet q → start ≡ startStates sheet → a ≡ withoutValue (decided (faults actionFaults bytes q sheet) sheet)) → a ≡ withoutValue (reading bytes)
+    -- or a sheet, which is tested.
+    pub read-tested : {start : States} {q : ℕ} {a : Answer (Unit {0})} → ((c : Objective) → mapped startStates (body (headerOf h c) bytes (h .at)) ≡ got start q)
+        → ((c : Objective) (sheet : Sheet) → h .space ≡ spaceSet (h .facts) c → body (headerOf h c) bytes (h .at) ≡ got sheet q → start ≡ startStates sheet
+        → a ≡ withoutValue (decided (faults actionFaults bytes q sheet) sheet)) → a ≡ withoutValue (reading bytes)
     unfolding afterFields
     read-tested f g =
-        let w = mapped-got startStates (body h bytes p) f in
-        g (w .0) (w .1) (sym (w .2)) ∙ sym (ap withoutValue (reading-body bytes (header-is .0)) ∙ ap (λ (x : Read Sheet). withoutValue (afterFields actionFaults bytes x)) (w .1))
+        let w = mapped-got startStates (body (headerOf h constraint) bytes (h .at)) (f constraint) in
+        g constraint (w .0) read-space (w .1) (sym (w .2))
+        ∙ sym (ap withoutValue (reading-body bytes header-is) ∙ ap (λ (x : Read Sheet). withoutValue (afterFields actionFaults bytes x)) (w .1))

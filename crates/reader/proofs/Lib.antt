@@ -4,4 +4,5 @@ pub mod EvaluationLaws
 pub mod EndLaws
 pub mod TestLaws
 pub mod ProgramLaws
+pub mod HeaderLaws
 pub mod BodyLaws

@@ -1,4 +1,4 @@
--- What the answers of the reader's public functions mean: document 01's number for each refusal, and what the readers of the format (crate `format`) find.
+-- What the answers of the reader's public functions mean: the number of each refusal, and what the readers of the format (crate `format`) find.
 use Prim.Native.Nat.{ℕ}
 use mathlib.Core.Bool.{Bool, true, false}
 use Rattle.states.specs.declared.States.{States}
@@ -17,7 +17,7 @@ use Rattle.reader.specs.declared.nodes.EpistemicNode.{EpistemicNode as E
 use Rattle.reader.specs.declared.nodes.ProgramNode.{ProgramNode as ProgramFound}
 use Rattle.reader.specs.declared.sheet.Acceptance.{Acceptance}
 
--- "From the sheet": the number of each refusal.
+-- "From the sheet": the number of each refusal; document 02's is 16.
 unfoldable pub numberOf : Refusal → ℕ
 numberOf Refusal.Length = 1
 numberOf Refusal.Cut = 2
@@ -34,6 +34,7 @@ numberOf Refusal.Padding = 12
 numberOf Refusal.NoStart = 13
 numberOf Refusal.NoNext = 14
 numberOf Refusal.NoReply = 15
+numberOf Refusal.NoState = 16
 
 -- The reader's answer: "accepted", or the number of the refusal.
 unfoldable pub answerOf : Acceptance → Answer (Unit {0})
@@ -51,18 +52,29 @@ unfoldable pub numberFor : {A : Type 0} → Answer A → ℕ
 numberFor (gives a) = 0
 numberFor (refused r) = r
 
--- What the header says, as a value of the code; with the states as a set.
-unfoldable pub headerOf : HeaderValue → Header
-headerOf h = record { edition = h .edition; facts = h .facts; actions = h .actions }
-
-unfoldable pub headerRead : ParsedHeader → Read (Header × States)
-unfolding numberOf headerOf
-headerRead (ParsedHeader.Read h) = got (headerOf h, h .space) (h .at)
-headerRead (ParsedHeader.Refused r) = fault (numberOf r)
-
-unfoldable pub spaced : Header → Header × States
+-- The states over n facts that satisfy a constraint, as a set.
+unfoldable pub spaceSet : (n : ℕ) (constraint : Objective) → States
 unfolding setOf inSpace
-spaced h = (h, setOf (inSpace (h .facts)))
+spaceSet n constraint = setOf (inSpace n constraint)
+
+-- What is kept of a header: its numbers and, instead of the constraint, the states that satisfy it.
+pub record HeaderKept : Type 0 where
+  pub edition : ℕ
+  pub facts : ℕ
+  pub space : States
+  pub actions : ℕ
+
+unfoldable pub spaced : Header → HeaderKept
+unfolding spaceSet
+spaced h = record { edition = h .edition; facts = h .facts; space = spaceSet (h .facts) (h .constraint); actions = h .actions }
+
+unfoldable pub keptOf : HeaderValue → HeaderKept
+keptOf h = record { edition = h .edition; facts = h .facts; space = h .space; actions = h .actions }
+
+unfoldable pub headerRead : ParsedHeader → Read HeaderKept
+unfolding numberOf keptOf
+headerRead (ParsedHeader.Read h) = got (keptOf h) (h .at)
+headerRead (ParsedHeader.Refused r) = fault (numberOf r)
 
 -- The kind of an action, a reply count, the first node of an epistemic formula and of a program, each with the position after it.
 unfoldable pub kindRead : ActionKind → Read Kind

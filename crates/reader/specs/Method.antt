@@ -7,9 +7,10 @@ use Rattle.states.specs.declared.States.{States}
 use Rattle.states.specs.Sets.{setOf}
 use Rattle.format.specs.Syntax.{Objective, fact, new-fact, Sheet}
 use Rattle.format.specs.Truth.{holds}
-use Rattle.format.specs.Format.{Answer, gives, refused, Read, got, fault, ProgramRead, decided}
+use Rattle.format.specs.Format.{Answer, gives, refused, Read, got, fault, ProgramRead, Header, decided}
 use Rattle.reader.specs.Answers.{numberOf, statesIn}
 use Rattle.reader.specs.declared.bits.Field.{Field}
+use Rattle.reader.specs.declared.layout.Header.{Header as HeaderValue}
 use Rattle.reader.specs.declared.formula.View.{View}
 use Rattle.reader.specs.declared.formula.Walked.{Walked}
 use Rattle.reader.specs.declared.program.Counted.{Counted}
@@ -40,6 +41,10 @@ unfoldable pub passedTo : Walked → Answer ℕ
 unfolding numberOf
 passedTo (Walked.To p) = gives p
 passedTo (Walked.Refused r) = refused (numberOf r)
+
+-- The header that the code's value is kept of, by its constraint.
+unfoldable pub headerOf : HeaderValue → (constraint : Objective) → Header
+headerOf h constraint = record { edition = h .edition; facts = h .facts; constraint = constraint; actions = h .actions }
 
 -- What of a value is kept: nothing but where it ends; the nodes of a program; the states in which the start formula holds; those in which one of some formulas does.
 unfoldable pub ending : {A : Type 0} → A → Unit {0}

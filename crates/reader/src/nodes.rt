@@ -1,22 +1,17 @@
-// Walking through a sheet: its header, and the first node at a position. The inner functions are told that the sheet is
+// Walking through a sheet: the first node at a position. The inner functions are told that the sheet is
 // short enough; the public ones test it.
 use crate::bits::Field;
 use crate::bits::field_at;
-use crate::layout::Header;
-use crate::layout::ParsedHeader;
 use crate::limits::ACTION_NODES;
 use crate::limits::BRANCH_NODES;
 use crate::limits::BYTES;
-use crate::limits::EDITION;
-use crate::limits::FACTS;
 use crate::limits::REPLIES;
 use crate::refusal::Refusal;
-use states::States;
 ghost use mathlib.Core.Path.{_≡_};
 ghost use Prim.Native.Nat.{_≤_};
 ghost use lib.ListN.{length};
-ghost use Rattle.format.specs.Format.{mapped, mostBytes, isEdition, header as headerFields, kind, replyTotal, epistemicNode, programNode, ofSheet};
-ghost use Rattle.reader.specs.Answers.{spaced, headerRead, kindRead, totalRead, epistemicNodeRead, programNodeRead};
+ghost use Rattle.format.specs.Format.{mostBytes, kind, replyTotal, epistemicNode, programNode, ofSheet};
+ghost use Rattle.reader.specs.Answers.{kindRead, totalRead, epistemicNodeRead, programNodeRead};
 
 // The kind of an action, and the position after it.
 pub enum ActionKind {
@@ -46,42 +41,6 @@ pub enum ProgramNode {
     Act(usize, usize),
     Branch(usize),
     Refused(Refusal),
-}
-
-// The header of a sheet.
-pub fn header(bytes: &[u8]) -> ParsedHeader
-    ensures { λ r. ⌜ headerRead r ≡ mapped spaced (ofSheet (headerFields isEdition) (now (bytes .entry)) 0) ⌝ }
-{
-    if BYTES < bytes.len() {
-        return ParsedHeader::Refused(Refusal::Length);
-    }
-    let Field::Value(edition, facts_at) = field_at(bytes, 0, 4) else {
-        return ParsedHeader::Refused(Refusal::Cut);
-    };
-    if edition != EDITION {
-        return ParsedHeader::Refused(Refusal::Edition);
-    }
-    let Field::Value(n, actions_at) = field_at(bytes, facts_at, 4) else {
-        return ParsedHeader::Refused(Refusal::Cut);
-    };
-    if n < 1 {
-        return ParsedHeader::Refused(Refusal::Facts);
-    }
-    if FACTS < n {
-        return ParsedHeader::Refused(Refusal::Facts);
-    }
-    let Field::Value(k, end) = field_at(bytes, actions_at, 5) else {
-        return ParsedHeader::Refused(Refusal::Cut);
-    };
-    let space = States::all(n);
-    let read = Header {
-        edition,
-        facts: n,
-        actions: k,
-        space,
-        at: end,
-    };
-    ParsedHeader::Read(read)
 }
 
 // The kind of the action at a position.

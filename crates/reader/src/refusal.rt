@@ -2,7 +2,7 @@
 ghost use mathlib.Core.Path.{_≡_};
 ghost use Rattle.reader.specs.Answers.{numberOf};
 
-// In document 01's order, from 1 on.
+// In the order of their numbers, from 1 on: document 01's, and document 02's 16.
 pub enum Refusal {
     Length,
     Cut,
@@ -19,9 +19,10 @@ pub enum Refusal {
     NoStart,
     NoNext,
     NoReply,
+    NoState,
 }
 
-// Document 01's number.
+// Its number.
 pub fn number(r: Refusal) -> u8
     ensures { λ k. ⌜ k ≡ numberOf r ⌝ }
 {
@@ -41,5 +42,6 @@ pub fn number(r: Refusal) -> u8
         Refusal::NoStart => 13,
         Refusal::NoNext => 14,
         Refusal::NoReply => 15,
+        Refusal::NoState => 16,
     }
 }

@@ -7,11 +7,11 @@ use crate::formula::View;
 use crate::formula::Walked;
 use crate::formula::evaluate;
 use crate::formula::read_epistemic;
+use crate::headers::header;
 use crate::layout::Header;
 use crate::layout::ParsedHeader;
 use crate::limits::DEPTH;
 use crate::limits::LEVELS;
-use crate::nodes::header;
 use crate::program::Counted;
 use crate::program::Cursor;
 use crate::program::read_program;
@@ -20,12 +20,10 @@ use states::States;
 ghost use mathlib.Core.Path.{_≡_};
 ghost use Prim.Native.Nat.{_≤_};
 ghost use lib.ListN.{length};
-ghost use Rattle.states.specs.Sets.{setOf};
-ghost use Rattle.format.specs.Syntax.{Sheet};
-ghost use Rattle.format.specs.Truth.{inSpace};
+ghost use Rattle.format.specs.Syntax.{Objective, Sheet};
 ghost use Rattle.format.specs.Format.{got, mapped, mostBytes, mostFacts, body, isPadding, actionFaults, faults, decided, reading};
-ghost use Rattle.reader.specs.Answers.{answerOf, withoutValue, setRead, headerOf};
-ghost use Rattle.reader.specs.Method.{startStates};
+ghost use Rattle.reader.specs.Answers.{answerOf, withoutValue, setRead, spaceSet};
+ghost use Rattle.reader.specs.Method.{headerOf, startStates};
 
 // The reader's answer.
 pub enum Acceptance {
@@ -51,7 +49,7 @@ fn is_padding(bytes: &[u8], at: usize) -> bool
 // The fields behind the header: the states in which the start formula holds, and where the fields end.
 fn read_body(bytes: &[u8], h: Header) -> Evaluated
     requires { ⌜ length (now bytes) ≤ mostBytes ⌝ }
-    ensures { λ r. ⌜ setRead r ≡ mapped startStates (body (headerOf h) (now (bytes .entry)) (h .at)) ⌝ }
+    ensures { λ r. ⌜ ((constraint : Objective) → setRead r ≡ mapped startStates (body (headerOf h constraint) (now (bytes .entry)) (h .at))) ⌝ }
 {
     let n = h.facts;
     let k = h.actions;
@@ -80,15 +78,18 @@ fn read_body(bytes: &[u8], h: Header) -> Evaluated
     }
 }
 
-// The tests after the fields: the padding, a start state, and the tests of the actions.
+// The tests after the fields: the padding, a state, a start state, and the tests of the actions.
 fn test_body(bytes: &[u8], h: Header, start: States, end: usize) -> Acceptance
-    requires { ⌜ (length (now bytes) ≤ mostBytes) × (h .facts ≤ mostFacts) × (h .space ≡ setOf (inSpace (h .facts))) ⌝ }
-    ensures { λ r. ⌜ ((sheet : Sheet) → body (headerOf h) (now (bytes .entry)) (h .at) ≡ got sheet end → start ≡ startStates sheet → answerOf r ≡ withoutValue (decided (faults actionFaults (now (bytes .entry)) end sheet) sheet)) ⌝ }
+    requires { ⌜ (length (now bytes) ≤ mostBytes) × (h .facts ≤ mostFacts) ⌝ }
+    ensures { λ r. ⌜ ((constraint : Objective) (sheet : Sheet) → h .space ≡ spaceSet (h .facts) constraint → body (headerOf h constraint) (now (bytes .entry)) (h .at) ≡ got sheet end → start ≡ startStates sheet → answerOf r ≡ withoutValue (decided (faults actionFaults (now (bytes .entry)) end sheet) sheet)) ⌝ }
 {
     if !is_padding(bytes, end) {
         return Acceptance::Refused(Refusal::Padding);
     }
     let space = h.space;
+    if space.is_empty() {
+        return Acceptance::Refused(Refusal::NoState);
+    }
     if start.intersect(space).is_empty() {
         return Acceptance::Refused(Refusal::NoStart);
     }

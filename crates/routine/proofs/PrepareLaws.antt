@@ -11,12 +11,12 @@ use Rattle.states.specs.declared.States.{States}
 use Rattle.states.specs.Sets.{words, member, setOf}
 use Rattle.states.proofs.SetLaws.{member-setOf, set-cong}
 use Rattle.format.specs.Syntax.{Action, change, probe, replyCount, Sheet}
-use Rattle.format.specs.Truth.{isState, truth, holds, inSpace}
-use Rattle.format.specs.Format.{Answer, gives, refused, onAccepted, Read, got, fault, deepest, epistemic, reading, mapped, Header, header, ofSheet, isEdition}
+use Rattle.format.specs.Truth.{inSpace, isState, truth, holds}
+use Rattle.format.specs.Format.{Answer, gives, refused, onAccepted, Read, got, fault, deepest, epistemic, reading, mapped, header, ofSheet, isEdition}
 use Rattle.format.proofs.ReaderLaws.{sheet-short}
 use Rattle.format.proofs.StandingLaws.{accepted-standing}
 use Rattle.format.specs.Standing.{Standing, ObjectiveAt, ActionsAt, ProgramAt}
-use Rattle.reader.specs.Answers.{numberOf, withoutValue, inTheory, statesIn, spaced, headerOf, headerRead}
+use Rattle.reader.specs.Answers.{numberOf, withoutValue, inTheory, statesIn, spaceSet, HeaderKept, spaced, keptOf, headerRead}
 use Rattle.reader.proofs.AnswerLaws.{was-accepted, was-refused}
 use Rattle.reader.specs.declared.refusal.Refusal.{Refusal}
 use Rattle.reader.specs.declared.layout.Header.{Header as HeaderValue}
@@ -70,37 +70,37 @@ module _ (bytes : List ℕ) (sheet : Sheet) (read : reading bytes ≡ gives shee
   pub stands : Standing bytes sheet
   stands = accepted-standing bytes sheet read
 
-  -- The header is read.
-  abbrev sheetHeader : Header
-  sheetHeader = record { edition = stands .edition; facts = sheet .facts; actions = length (sheet .actions) }
+  -- The header is read, and this is kept of it.
+  abbrev sheetKept : HeaderKept
+  sheetKept = record { edition = stands .edition; facts = sheet .facts; space = spaceSet (sheet .facts) (sheet .constraint); actions = length (sheet .actions) }
 
-  header-counts : mapped spaced (ofSheet (header isEdition) bytes 0) ≡ got (sheetHeader, setOf (inSpace (sheet .facts))) (stands .actions-at)
+  header-kept : mapped spaced (ofSheet (header isEdition) bytes 0) ≡ got sheetKept (stands .actions-at)
   unfolding mapped spaced
-  header-counts = ap (mapped spaced) (sym (sheet-short (header isEdition) bytes 0 (stands .short) (stands .header-read)))
+  header-kept = ap (mapped spaced) (sym (sheet-short (header isEdition) bytes 0 (stands .short) (stands .header-read)))
 
   -- What the code found of it.
   pub header-refused : {A : Type 0} (r : ParsedHeader) (x : Refusal) → headerRead r ≡ mapped spaced (ofSheet (header isEdition) bytes 0) → r ≡ ParsedHeader.Refused x → A
   unfolding headerRead
   header-refused r x e told =
-      let f : _≡_ {A = Read (Header × States)} (fault (numberOf x)) (got (sheetHeader, setOf (inSpace (sheet .facts))) (stands .actions-at)) = sym (ap headerRead told) ∙ e ∙ header-counts in
+      let f : _≡_ {A = Read HeaderKept} (fault (numberOf x)) (got sheetKept (stands .actions-at)) = sym (ap headerRead told) ∙ e ∙ header-kept in
       let z : _≡_ {A = ℕ} 0 1 = cc in absurd (omega arith)
 
   pub record HeaderIs (h : HeaderValue) : Type 0 where
     pub facts-are : h .facts ≡ sheet .facts
     pub count-is : h .actions ≡ length (sheet .actions)
-    pub space-is : h .space ≡ setOf (inSpace (sheet .facts))
+    pub space-is : h .space ≡ spaceSet (sheet .facts) (sheet .constraint)
     pub at-is : h .at ≡ stands .actions-at
 
   pub header-found : (r : ParsedHeader) (h : HeaderValue) → headerRead r ≡ mapped spaced (ofSheet (header isEdition) bytes 0) → r ≡ ParsedHeader.Read h → HeaderIs h
-  unfolding headerRead headerOf
+  unfolding headerRead keptOf
   header-found r h e told =
-      let f : _≡_ {A = Read (Header × States)} (got (headerOf h, h .space) (h .at)) (got (sheetHeader, setOf (inSpace (sheet .facts))) (stands .actions-at)) = sym (ap headerRead told) ∙ e ∙ header-counts in
-      let both : _≡_ {A = Header × States} (headerOf h, h .space) (sheetHeader, setOf (inSpace (sheet .facts))) = cc in
+      let f : _≡_ {A = Read HeaderKept} (got (keptOf h) (h .at)) (got sheetKept (stands .actions-at)) = sym (ap headerRead told) ∙ e ∙ header-kept in
+      let same : _≡_ {A = HeaderKept} (keptOf h) sheetKept = cc in
       let at : h .at ≡ stands .actions-at = cc in
       record {
-        facts-are = ap (λ (x : Header × States). x .0 .facts) both;
-        count-is = ap (λ (x : Header × States). x .0 .actions) both;
-        space-is = ap (λ (x : Header × States). x .1) both;
+        facts-are = ap (λ (x : HeaderKept). x .facts) same;
+        count-is = ap (λ (x : HeaderKept). x .actions) same;
+        space-is = ap (λ (x : HeaderKept). x .space) same;
         at-is = at;
       }
 
@@ -125,7 +125,8 @@ module _ (bytes : List ℕ) (sheet : Sheet) (read : reading bytes ≡ gives shee
     count-is = found .count-is
 
     space-same : (s : ℕ) → s < 256 → member space s ≡ isState sheet s
-    space-same s l = ap (λ (u : States). member u s) (found .space-is) ∙ member-setOf (inSpace (sheet .facts)) s l ∙ sym (state-test sheet s)
+    unfolding spaceSet
+    space-same s l = ap (λ (u : States). member u s) (found .space-is) ∙ member-setOf (inSpace (sheet .facts) (sheet .constraint)) s l ∙ sym (state-test sheet s)
 
     sets-are : flatMap (actionSets (member space)) (sheet .actions) ≡ sheetActionSets sheet
     unfolding sheetActionSets

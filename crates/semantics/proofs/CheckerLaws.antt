@@ -89,6 +89,13 @@ module _ (bytes : List ℕ) (sheet : Sheet) (read : reading bytes ≡ gives shee
           let odd : length (s ∷ rest) % 2 ≡ 1 = eqb-true (length (s ∷ rest) % 2) 1 ((both-true (eqb (length (s ∷ rest) % 2) 1) (leb (length (s ∷ rest)) longestTrace) (k .0)) .0) in
           (shownHistory rest, s ∷ shownStates rest, shows-run sheet s rest (k .1), ap (λ (l : List ℕ). s ∷ l) (sym (shown-trace rest (omega arith))))
 
+  -- The states that the bytes then show are those of a run.
+  pub yes-run : (s : ℕ) (rest : List ℕ) → checked bytes (s ∷ rest) ≡ gives true → IsRun sheet (shownHistory rest) (s ∷ shownStates rest)
+  unfolding Failing Full Following
+  yes-run s rest e =
+      let shown = both-true (isTraceLength (length (s ∷ rest))) (showsFailing sheet (s ∷ rest)) (let k = sym (checked-accepted (s ∷ rest)) ∙ e in cc) in
+      shows-run sheet s rest (shown .1) .0 .0 .0
+
   pub failing-yes : (h : History) (run : List ℕ) → Failing sheet h run → checked bytes (trace h run) ≡ gives true
   unfolding isTraceLength Failing Full Following
   failing-yes h run f =

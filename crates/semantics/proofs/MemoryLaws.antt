@@ -45,6 +45,11 @@ pub verified-refused : (bytes : List ℕ) (r : ℕ) → reading bytes ≡ refuse
 unfolding verified outcomeOf onAccepted verdictOf shownBy written
 verified-refused bytes r e budget old enough = ap (judged budget old) (admitted-long bytes old enough ∙ e)
 
+-- Bytes that are read alike are verified alike.
+pub verified-alike : (one two : List ℕ) → reading one ≡ reading two → (budget : ℕ) (old : List ℕ) → verified one budget old ≡ verified two budget old
+unfolding verified admitted
+verified-alike one two e budget old = ap (λ (a : Answer Sheet). judged budget old (if ltb (length old) longestTrace then shortMemory else a)) e
+
 -- An "invalid" outcome shows 1 + 2L bytes, with which the memory then begins.
 module _ (bytes : List ℕ) (sheet : Sheet) (read : reading bytes ≡ gives sheet) (budget c l : ℕ) (invalid-is : outcome sheet budget .verdict ≡ invalid c l) where
   shown-length : length (outcome sheet budget .shown) ≡ 1 + 2 * l

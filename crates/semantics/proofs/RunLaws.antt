@@ -166,6 +166,19 @@ module _ (sheet : Sheet) where
   run-last h [] p = absurd p
   run-last h (s ∷ rest) p = steps-last s h rest (p .0) (p .2)
 
+  -- So is each.
+  steps-states : (s : ℕ) (h : History) (rest : List ℕ) → Steps sheet s h rest → (t : ℕ) → List·Memᴰ t rest → isState sheet t ≡ true
+  unfolding Steps
+  steps-states s [] [] p t m = absurd (List·Memᴰ·not-nil m)
+  steps-states s [] (u ∷ rest) p t m = absurd p
+  steps-states s (e ∷ h) [] p t m = absurd p
+  steps-states s (e ∷ h) (u ∷ rest) p t m = ⊎-elim (λ (k : t ≡ u). ap (isState sheet) k ∙ p .0) (λ k. steps-states u h rest (p .2) t k) (List·Memᴰ·cases-cons m)
+
+  pub run-states : (h : History) (run : List ℕ) → IsRun sheet h run → (t : ℕ) → List·Memᴰ t run → isState sheet t ≡ true
+  unfolding IsRun
+  run-states h [] p t m = absurd p
+  run-states h (s ∷ rest) p t m = ⊎-elim (λ (k : t ≡ s). ap (isState sheet) k ∙ p .0) (λ k. steps-states s h rest (p .2) t k) (List·Memᴰ·cases-cons m)
+
   -- The test of a state tells whether it is still possible; the list has just these states, strictly in order, so none of them twice.
   pub tested-possible : (h : History) (t : ℕ) → isPossible sheet h t ≡ true → Possible sheet h t
   unfolding isPossible Possible

@@ -1,14 +1,16 @@
--- The starred sample sheets of document 01, and its "Readings to reject", each table under one lemma that evaluates the definitions on every row.
+-- The starred sample sheets of document 01, its "Readings to reject" and sheets with a constraint (document 02), each table under one lemma that evaluates the definitions on
+-- every row.
 use Prim.Native.Nat.{ℕ, _-_}
 use mathlib.Core.List.{List, [], _∷_, _++_, map}
 use mathlib.Core.Path.{_≡_, refl}
-use mathlib.Core.Bool.{true}
+use mathlib.Core.Bool.{true, false}
 use lib.ListN.{length, replicate}
 use Rattle.lists.specs.Lists.{upFrom, below}
 use Rattle.format.specs.Syntax.{Objective, bottom, top, fact, new-fact, negation, conjunction, disjunction, equivalence, Epistemic, known, not-known, any-of, Program, end, act, branch, Action, change, probe, Sheet}
 use Rattle.format.specs.Format.{Answer, gives, refused, reading}
 use Rattle.semantics.specs.Verdict.{Verdict, valid, invalid, stopped, outcome, longestTrace, verified}
 use Rattle.semantics.specs.Replies.{to-do, at-end, told, reported}
+use Rattle.semantics.specs.Checker.{checked}
 use Rattle.semantics.specs.Printing.{digit, printed}
 
 -- A row: the bytes of a sheet, the budget, the verifier's answer, and the trace that it shows.
@@ -66,6 +68,7 @@ example goal =
     let test : Objective → Action = λ f. probe (f ∷ negation f ∷ []) in
     record {
       facts = 2;
+      constraint = top;
       actions = test (equivalence x1 x2) ∷ test (conjunction x1 x2) ∷ change (conjunction (equivalence (new-fact 0) (negation x1)) (equivalence (new-fact 1) x2)) ∷ [];
       start = top;
       goal = goal;
@@ -80,7 +83,7 @@ pub sheet10-says : reading sheet10 ≡ gives (example (known (conjunction (fact 
 unfolding reading
 sheet10-says = refl
 
--- Cases 1 to 11, in order; 1 and 10 have a second budget.
+-- Cases 1 to 11, in order; 1 and 10 have a second budget. (Document 02: "Case 6 becomes the byte 41." The byte 21 now ends inside a field.)
 abbrev pub starred : List Row
 starred =
     row sheet1 (gives (valid 2)) []
@@ -89,7 +92,8 @@ starred =
     ∷ row (0x11 ∷ 0x0C ∷ 0x90 ∷ 0x88 ∷ 0x1C ∷ 0x40 ∷ 0x88 ∷ 0x20 ∷ 0x01 ∷ []) (refused 12) []
     ∷ row (sheet1 ++ (0x00 ∷ [])) (refused 12) []
     ∷ row [] (refused 2) []
-    ∷ row (0x21 ∷ []) (refused 3) []
+    ∷ row (0x41 ∷ []) (refused 3) []
+    ∷ row (0x21 ∷ []) (refused 2) []
     ∷ row (0x10 ∷ []) (refused 4) []
     ∷ row (0x19 ∷ []) (refused 4) []
     ∷ row sheet9 (gives (valid 7)) []
@@ -100,7 +104,7 @@ starred =
 
 pub starred-hold : AllHold starred
 unfolding verified
-starred-hold = (refl, (refl, (refl, (refl, (refl, (refl, (refl, (refl, (refl, (refl, (refl, (refl, (refl, tt)))))))))))))
+starred-hold = (refl, (refl, (refl, (refl, (refl, (refl, (refl, (refl, (refl, (refl, (refl, (refl, (refl, (refl, tt))))))))))))))
 
 -- "For the sheet of case 2 the whole output is `invalid 2 1` and `00 01 00`."
 pub sheet2-prints : printed sheet2
@@ -117,7 +121,7 @@ digits-are = refl
 
 -- "Readings to reject": a small sheet for each, on which the rejected reading would answer otherwise.
 abbrev pub small : (facts : ℕ) (actions : List Action) (start : Objective) (goal : Epistemic) → Program → Sheet
-small facts actions start goal program = record { facts = facts; actions = actions; start = start; goal = goal; program = program }
+small facts actions start goal program = record { facts = facts; constraint = top; actions = actions; start = start; goal = goal; program = program }
 
 abbrev pub Readings : Type 0
 Readings =
@@ -152,3 +156,43 @@ overlapping-says = refl
 pub overlapping-told : (told overlapping (0 ∷ []) ≡ to-do 1) × (told overlapping (1 ∷ []) ≡ at-end true) × (outcome overlapping 9 ≡ record { verdict = invalid 2 2; shown = 0 ∷ 0 ∷ 0 ∷ 8 ∷ 0 ∷ [] })
 unfolding told outcome
 overlapping-told = (refl, refl, refl)
+
+-- Sheets with a constraint, over the facts "trunk live", 0, and "standby live", 1.
+--
+-- Probe 0 replies "fact 0" or "not fact 0", and the theory of change 1 is "new fact 0" alone; the goal is that fact 0 is known and "not fact 1" is known; the program does 0 and,
+-- unless fact 0 is known then, 1. Under the constraint "not (fact 0 and fact 1)" that is valid, without it invalid: a trunk that is live doesn't tell that the standby isn't.
+abbrev pub neverBothLive : List ℕ
+neverBothLive = 0x22 ∷ 0x95 ∷ 0x04 ∷ 0x45 ∷ 0x24 ∷ 0x22 ∷ 0x06 ∷ 0x0C ∷ 0x20 ∷ 0x44 ∷ 0x50 ∷ 0x42 ∷ 0x02 ∷ 0x10 ∷ []
+
+abbrev pub bothMayBeLive : List ℕ
+bothMayBeLive = 0x22 ∷ 0x22 ∷ 0x92 ∷ 0x11 ∷ 0x03 ∷ 0x06 ∷ 0x10 ∷ 0x22 ∷ 0x28 ∷ 0x21 ∷ 0x01 ∷ 0x08 ∷ 0x00 ∷ []
+
+-- Case 1 as a sheet of edition 2 with the constraint "true".
+abbrev pub sheet1Edition2 : List ℕ
+sheet1Edition2 = 0x21 ∷ 0x21 ∷ 0x92 ∷ 0x11 ∷ 0x03 ∷ 0x88 ∷ 0x11 ∷ 0x04 ∷ 0x00 ∷ []
+
+abbrev pub constrained : List Row
+constrained =
+    row neverBothLive (gives (valid 3)) []
+    ∷ row bothMayBeLive (gives (invalid 1 1)) (0x01 ∷ 0x00 ∷ 0x01 ∷ [])
+    ∷ row sheet1Edition2 (gives (valid 2)) []
+    -- The constraint and the start formula are false.
+    ∷ row (0x21 ∷ 0x00 ∷ 0x01 ∷ 0x00 ∷ []) (refused 16) []
+    ∷ []
+
+pub constrained-hold : AllHold constrained
+unfolding verified
+constrained-hold = (refl, (refl, (refl, (refl, tt))))
+
+-- The trace checker says no to a trace with a state outside the constraint. The theory of change 0 is "new fact 0", the goal that fact 1 is known, and the program does 0: from
+-- state 0 to state 1 the run fails the goal; state 3 lies outside, at the end and at the start. Without the constraint all three fail it.
+abbrev pub traced : List ℕ
+traced = 0x22 ∷ 0x95 ∷ 0x04 ∷ 0x42 ∷ 0x60 ∷ 0x88 ∷ 0xA0 ∷ 0x00 ∷ []
+
+abbrev pub traced1 : List ℕ
+traced1 = 0x12 ∷ 0x09 ∷ 0x82 ∷ 0x22 ∷ 0x80 ∷ []
+
+pub outside-checked : (checked traced (0x00 ∷ 0x00 ∷ 0x01 ∷ []) ≡ gives true) × (checked traced (0x00 ∷ 0x00 ∷ 0x03 ∷ []) ≡ gives false) × (checked traced (0x03 ∷ 0x00 ∷ 0x01 ∷ []) ≡ gives false)
+    × (checked traced1 (0x00 ∷ 0x00 ∷ 0x01 ∷ []) ≡ gives true) × (checked traced1 (0x00 ∷ 0x00 ∷ 0x03 ∷ []) ≡ gives true) × (checked traced1 (0x03 ∷ 0x00 ∷ 0x01 ∷ []) ≡ gives true)
+unfolding checked
+outside-checked = (refl, refl, refl, refl, refl, refl)

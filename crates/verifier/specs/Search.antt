@@ -96,7 +96,7 @@ pub record SearchedBy (depth : ℕ) (before after : List ℕ) (r : Searched) (fo
 -- Examples, evaluated.
 -- One fact, which action 0 asks for; the program asks once. The start formula is true.
 unfoldable pub asked : Epistemic → Sheet
-asked goal = record { facts = 1; actions = probe (fact 0 ∷ negation (fact 0) ∷ []) ∷ []; start = top; goal = goal; program = act 0 end }
+asked goal = record { facts = 1; constraint = top; actions = probe (fact 0 ∷ negation (fact 0) ∷ []) ∷ []; start = top; goal = goal; program = act 0 end }
 
 -- The search from the start of such a sheet, where both states are possible and nothing is counted.
 found : (goal : Epistemic) (budget : ℕ) → Found

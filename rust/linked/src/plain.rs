@@ -4,7 +4,7 @@
 use std::collections::HashMap;
 
 use reference::sheet::{Action, Epistemic, Objective, Program, Sheet, MAX_ACTION_NODES, MAX_TRACE};
-use reference::states::{states, State};
+use reference::states::{states, State, StateSet};
 use reference::step::start_states;
 use reference::truth::{holds, holds_between};
 
@@ -72,10 +72,11 @@ impl Filling<'_> {
     fn action(&mut self, sheet: &Sheet, number: usize, action: &Action) {
         let rows = self.sets;
         if let Action::Change(theory) = action {
-            let last = states(sheet).last().unwrap();
+            let space: StateSet = states(sheet).collect();
             for before in 0..=State::MAX {
-                let next = |&after: &State| before <= last && holds_between(theory, before, after);
-                self.set((0..=last).filter(next));
+                let next =
+                    |&after: &State| space.contains(before) && holds_between(theory, before, after);
+                self.set(space.iter().filter(next));
             }
         }
         let replies = self.sets;

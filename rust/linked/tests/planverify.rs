@@ -16,7 +16,7 @@ use std::sync::{LazyLock, Mutex};
 use std::thread;
 use std::time::Duration;
 
-use common::{around_a_million, counted_lines, longest, sheets, Case};
+use common::{around_a_million, counted_lines, excludes, longest, sheets, Case};
 use reference::random::Random;
 use reference::sheet::MAX_BYTES;
 
@@ -155,7 +155,7 @@ fn samples() -> Vec<(Vec<u8>, String)> {
         .filter(|path| path.extension().is_some_and(|extension| extension == "hex"))
         .map(|path| (unhex(&text(path.clone())), text(path.with_extension("out"))))
         .collect();
-    assert_eq!(samples.len(), 17);
+    assert_eq!(samples.len(), 25);
     samples
 }
 
@@ -176,13 +176,15 @@ fn sheets_of_all_kinds() {
     for word in ["valid", "invalid", "refused"] {
         assert!(counts[word] >= 1000, "{counts:?}");
     }
-    let mut refused = [0; 16];
+    let mut refused = [0; 17];
     for lines in &printed {
         if let Some(number) = lines.strip_prefix("refused ") {
             refused[number.trim_end().parse::<usize>().unwrap()] += 1;
         }
     }
     assert!(refused[1..].iter().all(|&count| count > 0), "{refused:?}");
+    let excluding = SHEETS.iter().filter(|sheet| excludes(sheet)).count();
+    assert!(excluding >= 1000, "{excluding} exclude a state");
 }
 
 #[test]

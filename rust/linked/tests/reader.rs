@@ -9,6 +9,8 @@ use linked::read;
 use reference::edges::edges;
 use reference::encode::{encode, set_bit};
 use reference::random::{damaged, good, Random, Size};
+use reference::sheet::Objective;
+use reference::states::excluded;
 
 static GOOD: LazyLock<Comparison> = LazyLock::new(compare_good);
 static DAMAGED: LazyLock<Comparison> = LazyLock::new(compare_damaged);
@@ -30,8 +32,8 @@ impl Comparison {
     }
 
     /// How many different sheets had each answer.
-    fn counts(&self) -> [usize; 16] {
-        let mut counts = [0; 16];
+    fn counts(&self) -> [usize; 17] {
+        let mut counts = [0; 17];
         for &number in self.answers.values() {
             counts[usize::from(number)] += 1;
         }
@@ -106,7 +108,7 @@ fn compare_random() -> Comparison {
         let mut bytes: Vec<u8> = (0..length).map(|_| random.bits() as u8).collect();
         if let Some(first) = bytes.first_mut() {
             if random.chance(7, 8) {
-                *first = 0x10 + random.between(0, 9) as u8;
+                *first = random.pick(&[0x10, 0x20]) + random.between(0, 9) as u8;
             }
         }
         if let Some(second) = bytes.get_mut(1) {
@@ -119,6 +121,7 @@ fn compare_random() -> Comparison {
     for length in [1023, 1024, 1025, 1026, 4096, 1 << 20] {
         compared.add(vec![0; length]);
         compared.add(vec![0x11; length]);
+        compared.add(vec![0x21; length]);
         compared.add(vec![0xff; length]);
     }
     compared
@@ -134,18 +137,55 @@ fn compare_edges() -> Comparison {
 
 #[test]
 fn good_sheets() {
-    let accepted = GOOD.answers.iter().filter(|(_, &number)| number == 0);
-    // The low half of the first byte is the number of facts.
-    let facts: BTreeSet<u8> = accepted.map(|(bytes, _)| bytes[0] % 16).collect();
-    assert!(
-        facts.iter().copied().eq(1..=8),
-        "numbers of facts {facts:?}"
-    );
+    let mut sheets: BTreeMap<u8, usize> = BTreeMap::new();
+    for bytes in GOOD.answers.keys() {
+        *sheets.entry(bytes[0]).or_insert(0) += 1;
+    }
+    // The halves of the first byte are the edition and the number of facts.
+    let all = (0x11..=0x18).chain(0x21..=0x28);
+    assert!(sheets.keys().copied().eq(all), "{sheets:x?}");
+    assert!(sheets.values().all(|&count| count >= 40), "{sheets:x?}");
+}
+
+/// Accepted sheets with another constraint: true, or one that leaves or excludes a
+/// single state.
+#[test]
+fn other_constraints() {
+    let (mut freed, mut changed) = (Comparison::default(), Comparison::default());
+    for bytes in GOOD.answers.keys() {
+        let sheet = reference::read::read(bytes).unwrap();
+        if !excluded(&sheet).is_empty() {
+            let free = sheet.clone().constrained(Objective::True);
+            freed.add(encode(&free));
+        }
+        for state in (0..1u16 << sheet.facts).filter(|_| sheet.facts <= 2) {
+            let literal = |number: u8| match state >> number & 1 {
+                1 => Objective::Fact(number),
+                _ => Objective::Fact(number).negate(),
+            };
+            let only = (1..sheet.facts).fold(literal(0), |all, number| all.and(literal(number)));
+            for constraint in [only.clone().negate(), only] {
+                changed.add(encode(&sheet.clone().constrained(constraint)));
+            }
+        }
+    }
+    // Of the answers 0, 13, 14 and 15 there are at least so many.
+    for (compared, least) in [
+        (freed, [300, 0, 100, 100]),
+        (changed, [5000, 500, 1000, 100]),
+    ] {
+        let counts = compared.counts();
+        let met = [0, 13, 14, 15].map(|number| counts[number]);
+        assert!(
+            met.iter().zip(least).all(|(&met, least)| met >= least),
+            "{counts:?}"
+        );
+    }
 }
 
 #[test]
 fn damaged_sheets() {
-    DAMAGED.assert_met(0..=15);
+    DAMAGED.assert_met(0..=16);
 }
 
 #[test]
@@ -162,7 +202,7 @@ fn random_bytes() {
 
 #[test]
 fn sheets_at_the_limits() {
-    EDGES.assert_met(0..=15);
+    EDGES.assert_met(0..=16);
 }
 
 #[test]

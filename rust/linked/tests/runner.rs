@@ -7,7 +7,7 @@ mod common;
 use std::cell::RefCell;
 use std::collections::BTreeMap;
 
-use common::{bytes, choices, longest, many, FEW};
+use common::{bytes, choices, excludes, longest, many, FEW};
 use linked::{Tables, Verdict, REPLIES, SHEET};
 use reference::edges::edges;
 use reference::encode::encode;
@@ -262,7 +262,7 @@ fn lists_of_calls() {
     let mut random = Random::new(61);
     let mut counts = Counts::default();
     let (mut lists, mut lively, mut refused, mut denials, mut all_replies) = (0, 0, 0, 0, 0);
-    let (mut longest_sheet, mut longest_list) = (0, 0);
+    let (mut longest_sheet, mut longest_list, mut excluding) = (0, 0, 0);
     for bytes in sheets(&mut random) {
         let mut both = Both::load(&mut random, &bytes);
         let sheet = read(&bytes).ok();
@@ -270,6 +270,7 @@ fn lists_of_calls() {
         lists += 1;
         lively += usize::from(sheet.as_ref().is_some_and(probes_and_branches));
         refused += usize::from(sheet.is_none());
+        excluding += usize::from(excludes(&bytes));
         // Some calls, or all up to the end and a few behind it; the first two sheets
         // are the longest and the one of the longest run.
         let mut left = match sheet {
@@ -309,6 +310,7 @@ fn lists_of_calls() {
     assert!(lists - refused >= 5000, "{lists} lists, {refused} refused");
     assert!(3 * lively > 2 * lists, "{lively} of {lists}");
     assert!(refused >= 300, "{refused} refused");
+    assert!(excluding >= 1500, "{excluding} exclude a state");
     assert!(denials >= 1000, "{denials} accepted though denied");
     assert!(all_replies >= 100, "{all_replies}");
     assert!(counts.least() >= 500, "{counts:?}");
@@ -320,8 +322,10 @@ fn damaged_records() {
     let mut random = Random::new(62);
     let mut counts = Counts::default();
     let (mut refused, mut taken) = (BTreeMap::new(), BTreeMap::new());
+    let mut excluding = 0;
     for _ in 0..1000 {
         let record = some_record(&mut random);
+        excluding += usize::from(excludes(&record.sheet[..record.length]));
         Both::new(record.clone()).next(&mut Counts::default());
         for &(name, always, damage) in DAMAGES {
             let mut bad = record.clone();
@@ -348,6 +352,7 @@ fn damaged_records() {
         assert!(*always || taken[name] >= 20, "{name}: {taken:?}");
     }
     assert!(counts.least() >= 50, "{counts:?}");
+    assert!(excluding >= 250, "{excluding} exclude a state");
 }
 
 /// Visits the lists of accepted replies, in order, up to the first after which the
@@ -370,7 +375,8 @@ fn failing(both: &mut Both, calls: &mut Counts, count: &mut u32) -> Option<usize
 fn full_runs_end_as_the_verdict_says() {
     let mut random = Random::new(63);
     let mut calls = Counts::default();
-    let (mut valid, mut invalid, mut most) = (0, 0, 0);
+    let [mut valid, mut invalid, mut excluding] = [0; 3];
+    let mut most = 0;
     while valid + invalid < 3000 {
         let bytes = match random.below(20) {
             0 => few_facts(&mut random, choices),
@@ -391,9 +397,11 @@ fn full_runs_end_as_the_verdict_says() {
             Verdict::Valid { .. } => valid += 1,
             _ => invalid += 1,
         }
+        excluding += usize::from(excludes(&bytes));
         most = most.max(count);
     }
     assert!(valid >= 1000 && invalid >= 1000, "{valid} {invalid}");
+    assert!(excluding >= 800, "{excluding} exclude a state");
     assert!(most >= 100, "{most}");
     assert!(calls.goals_met >= 2000 && calls.goals_missed >= 1000);
     assert!(calls.reports[&33] >= 1000 && calls.reports[&34] >= 1000);

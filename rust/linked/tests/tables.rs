@@ -12,7 +12,7 @@ use reference::execute::Execution;
 use reference::random::{damaged, good, Random, Size};
 use reference::read::read;
 use reference::sheet::{Action, Epistemic, Program, Sheet};
-use reference::states::{State, StateSet};
+use reference::states::{excluded, State, StateSet};
 use reference::step::{gather, keep, start_states};
 use reference::truth::holds_knowing;
 
@@ -63,7 +63,7 @@ fn refused_sheets_leave_the_memory_as_it_was() {
     }
     let (before, before_start) = pattern(23);
     let (mut tables, mut start) = (before.clone(), before_start);
-    let mut refused: [BTreeSet<Vec<u8>>; 16] = Default::default();
+    let mut refused: [BTreeSet<Vec<u8>>; 17] = Default::default();
     for bytes in sheets {
         let Err(refusal) = read(&bytes) else {
             continue;
@@ -84,6 +84,7 @@ fn refused_sheets_leave_the_memory_as_it_was() {
 fn accepted_sheets_are_written_over_any_memory() {
     let (before, before_start) = pattern(24);
     let mut facts = BTreeMap::new();
+    let mut excluding = BTreeMap::new();
     for (bytes, sheet) in ACCEPTED.iter() {
         let (mut tables, mut start) = (before.clone(), before_start);
         let mut expected = before.clone();
@@ -93,9 +94,17 @@ fn accepted_sheets_are_written_over_any_memory() {
         assert!(tables == expected, "sheet {bytes:02x?}");
         assert_eq!(start, expected_start, "sheet {bytes:02x?}");
         *facts.entry(sheet.facts).or_insert(0) += 1;
+        if !excluded(sheet).is_empty() {
+            *excluding.entry(sheet.facts).or_insert(0) += 1;
+        }
     }
     assert!(ACCEPTED.len() >= 3000, "{} sheets", ACCEPTED.len());
     assert!(facts.keys().copied().eq(1..=8), "{facts:?}");
+    assert!(excluding.keys().copied().eq(1..=8), "{excluding:?}");
+    assert!(
+        excluding.values().all(|&count| count >= 15),
+        "{excluding:?}"
+    );
 }
 
 /// What was compared on the way through routines.

@@ -18,9 +18,10 @@ use reference::encode::encode;
 use reference::execute::Execution;
 use reference::print::lines;
 use reference::random::Random;
+use reference::read::read;
 use reference::refusal::Refusal;
-use reference::sheet::{Epistemic, Sheet, MAX_TRACE};
-use reference::states::{states, State};
+use reference::sheet::{Epistemic, Objective, Sheet, MAX_TRACE};
+use reference::states::{excluded, is_state, states, State};
 use reference::step::{effect, replies, start_states, step};
 use reference::verify::Answer;
 
@@ -118,8 +119,9 @@ fn budgets(case: &Case) -> BTreeSet<u32> {
 fn verdicts_and_memory() {
     let mut random = Random::new(42);
     let [mut valid, mut invalid, mut stopped] = [0; 3];
-    let mut refused = [0; 16];
+    let mut refused = [0; 17];
     let mut facts = BTreeSet::new();
+    let mut excluding = BTreeSet::new();
     let mut many = 0;
     for case in CASES.iter() {
         many += usize::from(matches!(case.answer, Answer::Stopped { .. }));
@@ -133,12 +135,15 @@ fn verdicts_and_memory() {
             }
         }
         facts.extend(case.sheet.as_ref().map(|sheet| sheet.facts));
+        let bites = |sheet: &&Sheet| !excluded(sheet).is_empty();
+        excluding.extend(case.sheet.as_ref().filter(bites).map(|sheet| sheet.facts));
     }
     assert!(CASES.len() >= 5000, "{} sheets", CASES.len());
     let counts = [valid, invalid, stopped];
     assert!(counts.iter().all(|&count| count >= 2000), "{counts:?}");
     assert!(refused[1..].iter().all(|&count| count > 0), "{refused:?}");
     assert!(facts.iter().copied().eq(1..=8), "{facts:?}");
+    assert!(excluding.iter().copied().eq(1..=8), "{excluding:?}");
     assert!(many >= 50, "{many} sheets have more than {FEW} histories");
 }
 
@@ -610,8 +615,14 @@ fn checked(sheet: &[u8], trace: &[u8]) -> Checked {
     expected
 }
 
-/// Traces that differ little from this one, or are of another length.
-fn damaged_traces(random: &mut Random, trace: &[u8], most: usize) -> Vec<Vec<u8>> {
+/// Traces that differ little from this one, some by an excluded state, or are of
+/// another length.
+fn damaged_traces(
+    random: &mut Random,
+    trace: &[u8],
+    most: usize,
+    excluded: &[State],
+) -> Vec<Vec<u8>> {
     let mut traces = vec![vec![]];
     let mut places: Vec<usize> = (0..trace.len()).collect();
     while places.len() > most {
@@ -620,7 +631,11 @@ fn damaged_traces(random: &mut Random, trace: &[u8], most: usize) -> Vec<Vec<u8>
     for &place in &places {
         traces.push(trace[..place].to_vec());
         let any = random.bits() as u8;
-        for byte in [trace[place] ^ 1, trace[place].wrapping_add(8), any, 255] {
+        let mut bytes = vec![trace[place] ^ 1, trace[place].wrapping_add(8), any, 255];
+        if place % 2 == 0 && !excluded.is_empty() {
+            bytes.push(*random.pick(excluded));
+        }
+        for byte in bytes {
             let mut other = trace.to_vec();
             other[place] = byte;
             traces.push(other);
@@ -648,7 +663,8 @@ fn damaged_traces(random: &mut Random, trace: &[u8], most: usize) -> Vec<Vec<u8>
 fn checked_nearby(random: &mut Random, sheet: &[u8], trace: &[u8], most: usize) -> [usize; 2] {
     assert_eq!(checked(sheet, trace), Checked::Yes);
     let [mut yes, mut no] = [0; 2];
-    for other in damaged_traces(random, trace, most) {
+    let excluded = excluded(&read(sheet).unwrap());
+    for other in damaged_traces(random, trace, most, &excluded) {
         match checked(sheet, &other) {
             Checked::Yes => yes += 1,
             Checked::No => no += 1,
@@ -754,10 +770,37 @@ fn any_failing_run_will_do() {
     assert!(reached >= 1000, "{least} {other} {reached}");
 }
 
+/// Runs that there would be if the constraint excluded no state.
+#[test]
+fn runs_through_excluded_states() {
+    let mut random = Random::new(54);
+    let (mut sheets, mut failing, mut reached) = (0, 0, 0);
+    for (case, sheet) in accepted() {
+        let free = sheet.clone().constrained(Objective::True);
+        if excluded(sheet).is_empty() || read(&encode(&free)).is_err() {
+            continue;
+        }
+        sheets += 1;
+        for _ in 0..4 {
+            let (trace, fails) = random_run(&mut random, &free);
+            if trace.iter().step_by(2).all(|&state| is_state(sheet, state)) {
+                continue;
+            }
+            assert_eq!(checked(&case.bytes, &trace), Checked::No);
+            match fails {
+                true => failing += 1,
+                false => reached += 1,
+            }
+        }
+    }
+    assert!(sheets >= 500, "{sheets}");
+    assert!(failing >= 300 && reached >= 300, "{failing} {reached}");
+}
+
 #[test]
 fn a_refused_sheet_comes_before_its_trace() {
     let mut random = Random::new(48);
-    let mut refused = [0; 16];
+    let mut refused = [0; 17];
     for case in CASES.iter().filter(|case| case.sheet.is_none()) {
         let length = *random.pick(&[0, 1, 2, 3, 128, 129, 130, 131, 1000]);
         let trace = bytes(&mut random, length);

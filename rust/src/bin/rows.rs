@@ -28,7 +28,8 @@ use reference::read::read;
 use reference::refusal::Refusal;
 use reference::runner::{Record, Told};
 use reference::runs::{Listing, Run};
-use reference::sheet::MAX_TRACE;
+use reference::sheet::{Objective, Sheet, MAX_TRACE};
+use reference::states::{excluded, is_state, State};
 use reference::verify::{verify, Answer};
 
 /// Limits that keep the listing of runs cheap, even for a slow evaluator.
@@ -100,7 +101,7 @@ fn row(random: &mut Random) -> Option<String> {
             talks = (0..random.between(2, 4))
                 .map(|_| talk(random, &bytes, &listing))
                 .collect();
-            checks = trace_checks(random, &bytes, &listing);
+            checks = trace_checks(random, &bytes, &sheet, &listing);
         }
     }
     let trace = match answer {
@@ -200,8 +201,14 @@ fn refused_check(random: &mut Random, bytes: &[u8], refusal: Refusal) -> String 
     format!("{}:{}", hex(&trace), refusal.number())
 }
 
-/// The shown trace, if any, and traces of other runs, some of them damaged.
-fn trace_checks(random: &mut Random, bytes: &[u8], listing: &Listing) -> Vec<String> {
+/// The shown trace, if any, and traces of other runs, some of them damaged, or runs only
+/// without the constraint.
+fn trace_checks(
+    random: &mut Random,
+    bytes: &[u8],
+    sheet: &Sheet,
+    listing: &Listing,
+) -> Vec<String> {
     let failing: Vec<Vec<u8>> = listing.failing().into_iter().map(Run::trace).collect();
     let mut traces: Vec<Vec<u8>> = failing.first().cloned().into_iter().collect();
     for _ in 0..random.between(1, 2) {
@@ -211,10 +218,11 @@ fn trace_checks(random: &mut Random, bytes: &[u8], listing: &Listing) -> Vec<Str
             random.pick(&listing.runs).trace()
         };
         if random.chance(1, 2) {
-            spoil(random, &mut trace);
+            spoil(random, &mut trace, &excluded(sheet));
         }
         traces.push(trace);
     }
+    traces.extend(outside_trace(random, sheet));
     let compared = |trace: &Vec<u8>| {
         let fails = failing.contains(trace);
         let expected = if fails { Checked::Yes } else { Checked::No };
@@ -224,13 +232,28 @@ fn trace_checks(random: &mut Random, bytes: &[u8], listing: &Listing) -> Vec<Str
     traces.iter().map(compared).collect()
 }
 
-fn spoil(random: &mut Random, trace: &mut Vec<u8>) {
+/// The trace of a run through a state that the constraint excludes, if there is one: a
+/// run that fails the goal where nothing is excluded, or else another.
+fn outside_trace(random: &mut Random, sheet: &Sheet) -> Option<Vec<u8>> {
+    let free = sheet.clone().constrained(Objective::True);
+    let listing = Listing::new(&free, MOST_RUNS)?;
+    let outside = |run: &&Run| run.states.iter().any(|&state| !is_state(sheet, state));
+    let failing: Vec<&Run> = listing.failing().into_iter().filter(outside).collect();
+    let others: Vec<&Run> = listing.runs.iter().filter(outside).collect();
+    let runs = [failing, others]
+        .into_iter()
+        .find(|runs| !runs.is_empty())?;
+    Some(random.pick(&runs).trace())
+}
+
+fn spoil(random: &mut Random, trace: &mut Vec<u8>, excluded: &[State]) {
     let last = trace.len() - 1;
-    match random.below(6) {
+    match random.below(7) {
         0 => trace.truncate(random.between(0, last)),
         1 => trace.push(0),
         2 => trace.extend([0, trace[last]]),
         3 if random.chance(1, 8) => trace.resize(MAX_TRACE + 2, 0),
+        4 if !excluded.is_empty() => trace[random.below(last + 1) / 2 * 2] = *random.pick(excluded),
         _ => trace[random.between(0, last)] ^= 1 << random.below(8),
     }
 }

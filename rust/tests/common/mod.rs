@@ -91,6 +91,7 @@ pub fn plain() -> Sheet {
     Sheet {
         edition: 1,
         facts: 1,
+        constraint: Objective::True,
         actions: vec![],
         start: Objective::True,
         goal: known(Objective::True),

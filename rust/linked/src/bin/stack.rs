@@ -277,10 +277,12 @@ fn sheets(depth: u32) -> Vec<(String, Sheet)> {
         sheet.actions.push(Action::Probe(replies));
         sheets.push((format!("depth {depth}, a reply, {shape}"), sheet));
         let sheet = Sheet {
-            start: formula,
+            start: formula.clone(),
             ..plain()
         };
         sheets.push((format!("depth {depth}, the start formula, {shape}"), sheet));
+        let sheet = plain().constrained(formula);
+        sheets.push((format!("depth {depth}, the constraint, {shape}"), sheet));
     }
     for levels in 1..depth {
         for (inner, part) in objectives(depth - levels, Objective::Fact(0)) {
@@ -306,6 +308,7 @@ fn plain() -> Sheet {
     Sheet {
         edition: 1,
         facts: 8,
+        constraint: Objective::True,
         actions: vec![
             Action::Probe(vec![Objective::True]),
             Action::Change(Objective::New(0)),

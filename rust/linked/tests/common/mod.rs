@@ -9,10 +9,11 @@ use linked::{plain, Tables, Verdict};
 use reference::edges::{self, edges};
 use reference::encode::encode;
 use reference::print::lines;
-use reference::random::{damaged, good, Random, Size};
+use reference::random::{constrained, damaged, good, Random, Size};
 use reference::read::read;
 use reference::records::wide;
 use reference::sheet::{Action, Epistemic, Objective, Program, Sheet, MAX_BYTES, MAX_TRACE};
+use reference::states::excluded;
 use reference::verify::{verify, Answer};
 
 /// The budget of `planverify`.
@@ -71,6 +72,11 @@ pub fn answer(verdict: Verdict) -> Answer {
     }
 }
 
+/// Whether it is an accepted sheet with a constraint that excludes a state.
+pub fn excludes(sheet: &[u8]) -> bool {
+    read(sheet).is_ok_and(|sheet| !excluded(&sheet).is_empty())
+}
+
 pub fn bytes(random: &mut Random, length: usize) -> Vec<u8> {
     (0..length).map(|_| random.bits() as u8).collect()
 }
@@ -94,7 +100,7 @@ pub fn sheets(seed: u64) -> BTreeSet<Vec<u8>> {
         let length = random.between(0, 40);
         let mut sheet = bytes(&mut random, length);
         if let Some(first) = sheet.first_mut() {
-            *first = 0x10 + *first % 10;
+            *first = random.pick(&[0x10, 0x20]) + *first % 10;
         }
         sheets.insert(sheet);
     }
@@ -105,7 +111,8 @@ pub fn sheets(seed: u64) -> BTreeSet<Vec<u8>> {
 }
 
 /// A failing routine in which changes leave facts free and probes tell them
-/// later, so that the least next state is often a wrong one.
+/// later, so that the least next state is often a wrong one; every other one has a
+/// constraint, if it is still accepted then.
 pub fn choices(random: &mut Random) -> Sheet {
     let most = if random.chance(1, 8) { 8 } else { 4 };
     let facts = random.between(1, most) as u8;
@@ -135,12 +142,16 @@ pub fn choices(random: &mut Random) -> Sheet {
     let numbers: Vec<u8> = (0..length)
         .map(|_| random.below(actions.len()) as u8)
         .collect();
-    Sheet {
+    let sheet = Sheet {
         facts,
         actions,
         goal: Epistemic::NotKnown(Objective::True),
         program: sequence(&numbers),
         ..edges::plain()
+    };
+    match random.chance(1, 2) {
+        true => constrained(random, sheet),
+        false => sheet,
     }
 }
 

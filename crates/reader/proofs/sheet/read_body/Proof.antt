@@ -1,8 +1,8 @@
 -- `reader::sheet::read_body` meets its contract: the fields one behind the other (proofs/BodyLaws.antt). Assumes nothing.
 use mathlib.Core.Path.{sym, ap, _∙_}
 use denote.Ref.{now}
-use Rattle.reader.specs.Answers.{setRead, inTheory, headerOf}
-use Rattle.reader.specs.Method.{endRead, countRead}
+use Rattle.reader.specs.Answers.{setRead, inTheory}
+use Rattle.reader.specs.Method.{endRead, countRead, headerOf}
 use Rattle.reader.proofs.BodyLaws.{no-actions, no-start, no-goal, no-program, body-got}
 use borrow.Author.Needs.{needs}
 use Rattle.reader.proofs.sheet.read_body.Statement.{statement}
@@ -46,28 +46,28 @@ enum-known-end c = search needs
 
 returns : tie.Need-returns
 unfolding endRead setRead countRead inTheory headerOf
-returns c =
-    sym (no-actions (headerOf (c .before .before .before .before .before .args .h)) (now (c .before .before .before .before .before .args .bytes)) (c .before .before .before .before .before .args .h .at) (sym (c .before .before .before .read-actions .ensures) ∙ ap endRead (c .before .r .given .1)))
+returns c = λ constraint.
+    sym (no-actions (headerOf (c .before .before .before .before .before .args .h) constraint) (now (c .before .before .before .before .before .args .bytes)) (c .before .before .before .before .before .args .h .at) (sym (c .before .before .before .read-actions .ensures) ∙ ap endRead (c .before .r .given .1)))
 
 returns-2 : tie.Need-returns-2
 unfolding endRead setRead countRead inTheory headerOf
-returns-2 c =
-    sym (no-start (headerOf (c .before .before .before .before .before .before .before .before .before .args .h)) (now (c .before .before .before .before .before .before .before .before .before .args .bytes)) (c .before .before .before .before .before .before .before .before .before .args .h .at) (sym (c .before .before .before .before .before .before .before .read-actions .ensures) ∙ ap endRead (c .before .before .before .before .before .start-at .given .1)) (sym (c .before .before .before .evaluate .ensures) ∙ ap setRead (c .before .r2 .given .1)))
+returns-2 c = λ constraint.
+    sym (no-start (headerOf (c .before .before .before .before .before .before .before .before .before .args .h) constraint) (now (c .before .before .before .before .before .before .before .before .before .args .bytes)) (c .before .before .before .before .before .before .before .before .before .args .h .at) (sym (c .before .before .before .before .before .before .before .read-actions .ensures) ∙ ap endRead (c .before .before .before .before .before .start-at .given .1)) (sym (c .before .before .before .evaluate .ensures) ∙ ap setRead (c .before .r2 .given .1)))
 
 returns-3 : tie.Need-returns-3
 unfolding endRead setRead countRead inTheory headerOf
-returns-3 c =
-    sym (no-goal (headerOf (c .before .before .before .before .before .before .before .before .before .before .before .before .before .args .h)) (now (c .before .before .before .before .before .before .before .before .before .before .before .before .before .args .bytes)) (c .before .before .before .before .before .before .before .before .before .before .before .before .before .args .h .at) (sym (c .before .before .before .before .before .before .before .before .before .before .before .read-actions .ensures) ∙ ap endRead (c .before .before .before .before .before .before .before .before .before .start-at .given .1)) (sym (c .before .before .before .before .before .before .before .evaluate .ensures) ∙ ap setRead (c .before .before .before .before .before .start .given .1)) (sym (c .before .before .before .read-epistemic .ensures) ∙ ap endRead (c .before .r3 .given .1)))
+returns-3 c = λ constraint.
+    sym (no-goal (headerOf (c .before .before .before .before .before .before .before .before .before .before .before .before .before .args .h) constraint) (now (c .before .before .before .before .before .before .before .before .before .before .before .before .before .args .bytes)) (c .before .before .before .before .before .before .before .before .before .before .before .before .before .args .h .at) (sym (c .before .before .before .before .before .before .before .before .before .before .before .read-actions .ensures) ∙ ap endRead (c .before .before .before .before .before .before .before .before .before .start-at .given .1)) (sym (c .before .before .before .before .before .before .before .evaluate .ensures) ∙ ap setRead (c .before .before .before .before .before .start .given .1)) (sym (c .before .before .before .read-epistemic .ensures) ∙ ap endRead (c .before .r3 .given .1)))
 
 returns-4 : tie.Need-returns-4
 unfolding endRead setRead countRead inTheory headerOf
-returns-4 c =
-    sym (no-program (headerOf (c .before .before .before .before .before .before .before .before .before .before .before .before .before .before .before .before .before .args .h)) (now (c .before .before .before .before .before .before .before .before .before .before .before .before .before .before .before .before .before .args .bytes)) (c .before .before .before .before .before .before .before .before .before .before .before .before .before .before .before .before .before .args .h .at) (sym (c .before .before .before .before .before .before .before .before .before .before .before .before .before .before .before .read-actions .ensures) ∙ ap endRead (c .before .before .before .before .before .before .before .before .before .before .before .before .before .start-at .given .1)) (sym (c .before .before .before .before .before .before .before .before .before .before .before .evaluate .ensures) ∙ ap setRead (c .before .before .before .before .before .before .before .before .before .start .given .1)) (sym (c .before .before .before .before .before .before .before .read-epistemic .ensures) ∙ ap endRead (c .before .before .before .before .before .program-at .given .1)) (sym (c .before .before .before .read-program .ensures) ∙ ap countRead (c .before .r4 .given .1)))
+returns-4 c = λ constraint.
+    sym (no-program (headerOf (c .before .before .before .before .before .before .before .before .before .before .before .before .before .before .before .before .before .args .h) constraint) (now (c .before .before .before .before .before .before .before .before .before .before .before .before .before .before .before .before .before .args .bytes)) (c .before .before .before .before .before .before .before .before .before .before .before .before .before .before .before .before .before .args .h .at) (sym (c .before .before .before .before .before .before .before .before .before .before .before .before .before .before .before .read-actions .ensures) ∙ ap endRead (c .before .before .before .before .before .before .before .before .before .before .before .before .before .start-at .given .1)) (sym (c .before .before .before .before .before .before .before .before .before .before .before .evaluate .ensures) ∙ ap setRead (c .before .before .before .before .before .before .before .before .before .start .given .1)) (sym (c .before .before .before .before .before .before .before .read-epistemic .ensures) ∙ ap endRead (c .before .before .before .before .before .program-at .given .1)) (sym (c .before .before .before .read-program .ensures) ∙ ap countRead (c .before .r4 .given .1)))
 
 returns-5 : tie.Need-returns-5
 unfolding endRead setRead countRead inTheory headerOf
-returns-5 c =
-    sym (body-got (headerOf (c .before .before .before .before .before .before .before .before .before .before .before .before .before .before .before .before .before .args .h)) (now (c .before .before .before .before .before .before .before .before .before .before .before .before .before .before .before .before .before .args .bytes)) (c .before .before .before .before .before .before .before .before .before .before .before .before .before .before .before .before .before .args .h .at) (sym (c .before .before .before .before .before .before .before .before .before .before .before .before .before .before .before .read-actions .ensures) ∙ ap endRead (c .before .before .before .before .before .before .before .before .before .before .before .before .before .start-at .given .1)) (sym (c .before .before .before .before .before .before .before .before .before .before .before .evaluate .ensures) ∙ ap setRead (c .before .before .before .before .before .before .before .before .before .start .given .1)) (sym (c .before .before .before .before .before .before .before .read-epistemic .ensures) ∙ ap endRead (c .before .before .before .before .before .program-at .given .1)) (sym (c .before .before .before .read-program .ensures) ∙ ap countRead (c .before .end .given .1)))
+returns-5 c = λ constraint.
+    sym (body-got (headerOf (c .before .before .before .before .before .before .before .before .before .before .before .before .before .before .before .before .before .args .h) constraint) (now (c .before .before .before .before .before .before .before .before .before .before .before .before .before .before .before .before .before .args .bytes)) (c .before .before .before .before .before .before .before .before .before .before .before .before .before .before .before .before .before .args .h .at) (sym (c .before .before .before .before .before .before .before .before .before .before .before .before .before .before .before .read-actions .ensures) ∙ ap endRead (c .before .before .before .before .before .before .before .before .before .before .before .before .before .start-at .given .1)) (sym (c .before .before .before .before .before .before .before .before .before .before .before .evaluate .ensures) ∙ ap setRead (c .before .before .before .before .before .before .before .before .before .start .given .1)) (sym (c .before .before .before .before .before .before .before .read-epistemic .ensures) ∙ ap endRead (c .before .before .before .before .before .program-at .given .1)) (sym (c .before .before .before .read-program .ensures) ∙ ap countRead (c .before .end .given .1)))
 
 pub read-body-spec : {M : Type 1} → statement M
 read-body-spec =

@@ -5,11 +5,11 @@ use std::cmp::Reverse;
 use linked::straight::{counted, seldom_told, sequence};
 use linked::Verdict;
 use reference::encode::encode;
-use reference::random::{good, Random, Size};
+use reference::random::{Random, Size};
 use reference::read::read;
 use reference::sheet::{Action, Epistemic, Objective, Program, Sheet, MAX_ACTION_NODES, MAX_TRACE};
 
-use crate::sheets::{goal_of_atoms, most};
+use crate::sheets::{goal_of_atoms, most, unconstrained};
 use crate::slowest::slowest_sheet;
 use crate::theories::{all, balanced, stays, toggles};
 use crate::{BUDGET, SAMPLE_1};
@@ -59,6 +59,7 @@ impl Routine {
         Sheet {
             edition: 1,
             facts: 8,
+            constraint: Objective::True,
             actions: self.actions.clone(),
             start: Objective::True,
             goal,
@@ -221,6 +222,7 @@ fn long_goal() -> Sheet {
     let sheet = |atoms| Sheet {
         edition: 1,
         facts: 8,
+        constraint: Objective::True,
         actions: vec![Action::Probe(vec![Objective::True; 8])],
         start: Objective::True,
         goal: balanced(&vec![Epistemic::Known(Objective::True); atoms]),
@@ -232,7 +234,7 @@ fn long_goal() -> Sheet {
 /// Of 40 random routines of 8 facts the one with the most histories up to a limit.
 fn random_routine(limit: u32) -> Sheet {
     let mut random = Random::new(9);
-    let sheets = (0..40).map(|_| good(&mut random, &Size::LARGE));
+    let sheets = (0..40).map(|_| unconstrained(&mut random, &Size::LARGE));
     sheets.max_by_key(|sheet| count(sheet, limit)).unwrap()
 }
 
@@ -240,7 +242,7 @@ fn random_routine(limit: u32) -> Sheet {
 /// greatest budget.
 fn most_histories(size: &Size, of: usize, chosen: usize) -> Vec<Sheet> {
     let mut random = Random::new(10);
-    let sheets = (0..of).map(|_| good(&mut random, size));
+    let sheets = (0..of).map(|_| unconstrained(&mut random, size));
     let valid = sheets.filter_map(|sheet| {
         match linked::verify(&encode(&sheet), u32::MAX, &mut [0; MAX_TRACE]) {
             Ok(Verdict::Valid { count }) => Some((count, sheet)),

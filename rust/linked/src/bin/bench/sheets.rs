@@ -3,7 +3,7 @@
 use reference::encode::encode;
 use reference::random::{good, Random, Size};
 use reference::read::read;
-use reference::sheet::{Action, Epistemic, Objective, Program, Sheet, MAX_BYTES};
+use reference::sheet::{has_constraint, Action, Epistemic, Objective, Program, Sheet, MAX_BYTES};
 
 use crate::theories::{
     all, balanced, denied_early, news, not_last, only_last, parity, sevens, stays, stays_or_zero,
@@ -47,7 +47,31 @@ pub fn prepared_sheets() -> Vec<Named> {
             most(40, long_program),
         ),
     ];
-    named("", sheets)
+    let mut sheets = named("", sheets);
+    sheets.extend(constrained());
+    sheets
+}
+
+/// Sheets with constraints; an earlier commit need not read them.
+fn constrained() -> Vec<Named> {
+    if cfg!(feature = "before") {
+        return vec![];
+    }
+    let fact = Objective::Fact;
+    let pairs = (0..4).map(|i| fact(2 * i).and(fact(2 * i + 1)).negate());
+    let never_both = all(pairs);
+    let stay = longest_of(|k| {
+        let theories = vec![stays(8).and(trues(k)); MOST];
+        sheet_of(8, theories).constrained(never_both.clone())
+    });
+    let long = longest_of(|k| sheet_of(8, vec![stays(8); 10]).constrained(trues(k)));
+    named(
+        "",
+        [
+            ("31 changes: each fact stays, 81 states", stay),
+            ("10 changes: each fact stays, a long constraint", long),
+        ],
+    )
 }
 
 fn named<const N: usize>(before: &str, sheets: [(&str, Vec<u8>); N]) -> Vec<Named> {
@@ -57,8 +81,18 @@ fn named<const N: usize>(before: &str, sheets: [(&str, Vec<u8>); N]) -> Vec<Name
 
 fn random_routine() -> Vec<u8> {
     let mut random = Random::new(8);
-    let routines = (0..20).map(|_| encode(&good(&mut random, &Size::LARGE)));
+    let routines = (0..20).map(|_| encode(&unconstrained(&mut random, &Size::LARGE)));
     routines.max_by_key(Vec::len).unwrap()
+}
+
+/// A random routine that an earlier commit reads too.
+pub fn unconstrained(random: &mut Random, size: &Size) -> Sheet {
+    loop {
+        let sheet = good(random, size);
+        if !has_constraint(sheet.edition) {
+            return sheet;
+        }
+    }
 }
 
 pub fn read_sheets() -> Vec<Named> {
@@ -75,6 +109,7 @@ pub fn read_sheets() -> Vec<Named> {
     sheets.extend([4, 5, 6, 8].into_iter().flat_map(one_change));
     sheets.extend((1..=8).map(worst_ratio));
     sheets.extend(worst_times());
+    sheets.extend(constrained());
     sheets.extend(refused());
     sheets
 }
@@ -230,6 +265,7 @@ fn sheet_of(facts: u8, theories: Vec<Objective>) -> Sheet {
     Sheet {
         edition: 1,
         facts,
+        constraint: Objective::True,
         actions: theories.into_iter().map(Action::Change).collect(),
         start: Objective::True,
         goal: Epistemic::Known(Objective::True),

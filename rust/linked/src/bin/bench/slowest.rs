@@ -112,6 +112,7 @@ impl Shape {
         let sheet = |atoms| Sheet {
             edition: 1,
             facts: 8,
+            constraint: Objective::True,
             actions: actions.clone(),
             start: Objective::True,
             goal: self.goal.of(atoms),

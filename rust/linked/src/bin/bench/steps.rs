@@ -52,6 +52,7 @@ fn stepped_sheet(condition: Epistemic, goal: Epistemic) -> Sheet {
     Sheet {
         edition: 1,
         facts: 8,
+        constraint: Objective::True,
         actions: vec![probe, Action::Change(stays(8))],
         start: Objective::True,
         goal,
