@@ -1,10 +1,11 @@
 /*
- * The proved recovery library for C: the reader of sheets, the verifier, the trace checker and the runner. C99, and
- * C++11. "Document 01" is the requirement; crates/recovery/src/lib.rt has the functions with their contracts. A sheet
- * is of edition 1 or 2. In edition 2 it says a constraint, and only what satisfies that is a state (docs/FORMAT.md).
+ * The proved recovery library for C: the reader of sheets, the verifier, the trace checker, the figures of a stream of
+ * sheets, and the runner. C99, and C++11. "Document 01" is the requirement; crates/recovery/src/lib.rt has the
+ * functions with their contracts. A sheet is of edition 1 or 2. In edition 2 it says a constraint, and only what
+ * satisfies that is a state (docs/FORMAT.md).
  *
- * Any numbers may stand in the memory that a call is lent, be it a sheet, a trace, a record or tables. What the caller
- * sees to, since nothing checks it:
+ * Any numbers may stand in the memory that a call is lent, be it a sheet, a trace, a record, the state of a stream or
+ * tables. What the caller sees to, since nothing checks it:
  *  - No pointer is null, not even one to no bytes.
  *  - A pointer is to as many elements as the length behind it says, or as the declaration has in brackets, and aligned
  *    as their type asks. A length is below 2^63.
@@ -37,12 +38,15 @@ extern "C" {
 #define RECOVERY_SHEET_BYTES 1024 /* the longest sheet, and the bytes of a record's sheet */
 #define RECOVERY_REPLY_BYTES 64   /* the replies of a record: a run has at most 64 actions */
 #define RECOVERY_TRACE_BYTES 129  /* the longest trace, and the least trace memory: 1 + 2 * 64 */
-#define RECOVERY_LINE_BYTES 512   /* the memory for what planverify prints, of which at most 406 bytes are used */
+#define RECOVERY_LINE_BYTES 512   /* the memory for what planverify prints, up to 406 bytes, or planfigures, 126 */
 #define RECOVERY_STATE_WORDS 4    /* a set of states: state s has weight 2^(s mod 64) in word s / 64 */
 #define RECOVERY_HEAD_CELLS 93    /* tables: the actions, 31 of three numbers each */
 #define RECOVERY_NODE_CELLS 12288 /* tables: the nodes of goal and program, 4,096 of three numbers each */
 #define RECOVERY_SET_WORDS 40960  /* tables: sets of states, 10,240 of four words each */
-#define RECOVERY_MEMO_WORDS 2048  /* what the search of recovery_verify_in remembers */
+#define RECOVERY_MEMO_WORDS 2048  /* what the search of recovery_verify_in and recovery_figures_feed remembers */
+#define RECOVERY_FIGURE_NUMBERS 6 /* the figures of a stream: enum recovery_figure */
+#define RECOVERY_STREAM_NUMBERS 8 /* the state of a stream: its figures so far, and enum recovery_stream_number */
+#define RECOVERY_BEGUN_BYTES 1026 /* the state of a stream: the bytes of a length and of the longest sheet */
 
 /*
  * What a call gives: 0, or why it is refused, by document 01's numbers. Of several reasons the first is given: 1; then
@@ -183,6 +187,59 @@ static inline uint8_t recovery_trace_reply(uint8_t byte)
 {
     return (uint8_t)(byte % 8);
 }
+
+/*
+ * The figures of a stream of sheets, each behind its length in two bytes, the more significant one first. Each sheet is
+ * verified with a budget of 1,000,000; one of no byte is refused, and so is one of more than 1,024 bytes, which are
+ * counted and not kept. A state is fed the stream in pieces, which may be cut anywhere, inside a length too, and may be empty:
+ * the figures are the same. Zeros in both memories are the state of no bytes. Bytes behind 65,535 lengths with their
+ * sheets aren't looked at. On numbers that no stream leaves the calls end too.
+ */
+
+/* The figures, in the order in which they are printed. */
+enum recovery_figure {
+    RECOVERY_FIGURE_VALID = 0,   /* how many sheets are valid, */
+    RECOVERY_FIGURE_INVALID = 1, /* invalid, */
+    RECOVERY_FIGURE_STOPPED = 2, /* stopped, */
+    RECOVERY_FIGURE_REFUSED = 3, /* and refused */
+    RECOVERY_FIGURE_SUM = 4,     /* the sum of the counts; a stopped one's is the budget, a refused one adds 0 */
+    RECOVERY_FIGURE_GREATEST = 5 /* the greatest length in the verdicts on the invalid ones, 0 if there is none */
+};
+
+/* The numbers of a state: the figures of the sheets that are read whole, and behind them */
+enum recovery_stream_number {
+    RECOVERY_STREAM_LENGTHS = 6, /* how many lengths are read with their sheets */
+    RECOVERY_STREAM_BEGUN = 7    /* how many bytes of the next length and its sheet are there */
+};
+
+struct recovery_stream {
+    uint64_t numbers[RECOVERY_STREAM_NUMBERS];
+    uint8_t begun[RECOVERY_BEGUN_BYTES]; /* these bytes, of a sheet that is too long those of its length alone, and zeros */
+};
+
+/*
+ * Feeds a piece: both memories of the state are written, which is then that of all bytes so far. 1 if 65,535 lengths
+ * are read with their sheets, so that nothing more is looked at, else 0. The tables and the memo are lent, whatever
+ * they hold: each sheet that is accepted leaves its tables there, one after the other, and zeros in the memo; where
+ * none is, they are left as they were.
+ */
+uint8_t recovery_figures_feed(const uint8_t *piece, size_t piece_length, uint64_t numbers[RECOVERY_STREAM_NUMBERS],
+                              uint8_t begun[RECOVERY_BEGUN_BYTES], uint16_t heads[RECOVERY_HEAD_CELLS],
+                              uint16_t nodes[RECOVERY_NODE_CELLS], uint64_t sets[RECOVERY_SET_WORDS],
+                              uint64_t memo[RECOVERY_MEMO_WORDS]);
+
+/*
+ * Writes the figures of a stream that ends in this state: a length or sheet that is cut there counts as one refused.
+ * The state is left as it was, and may be fed further.
+ */
+void recovery_figures_end(const uint64_t numbers[RECOVERY_STREAM_NUMBERS], const uint8_t begun[RECOVERY_BEGUN_BYTES],
+                          uint64_t figures[RECOVERY_FIGURE_NUMBERS]);
+
+/*
+ * Writes the line that planfigures prints for figures, whatever they are, from out[0] on and gives its length. The rest
+ * is left as it was.
+ */
+size_t recovery_figures_print(const uint64_t figures[RECOVERY_FIGURE_NUMBERS], uint8_t out[RECOVERY_LINE_BYTES]);
 
 /*
  * The runner. Nobody else writes the record between the calls.

@@ -1,11 +1,13 @@
 # Writes in C what the Rattle sources say, for tests/header.c: each constant, as CRATE__NAME or CRATE__Type__NAME; the numbers of refusals, of the checker's
-# answers and of the kinds of nodes, held to the enumerators of their names; the functions of crates/recovery/src/lib.rt, declared again, and the sizes of what stands for an array.
+# answers, of the kinds of nodes and of the places in a stream's state, held to the enumerators of their names; the functions of crates/recovery/src/lib.rt, declared again, and the sizes of what stands for an array.
 # Run on all sources, with that file last.
 
 BEGIN {
     type["u8"] = "uint8_t"; type["u16"] = "uint16_t"; type["u32"] = "uint32_t"; type["u64"] = "uint64_t"; type["usize"] = "size_t"
     # Arrays that the header declares as structs, by the parameter's name.
     struct["verdict"] = "struct recovery_verdict"; struct["lengths"] = "struct recovery_lengths"; struct["told"] = "struct recovery_told"
+    # Places in a stream's state that aren't those of figures, by what is read from them.
+    behind["lengths"] = "STREAM_LENGTHS"; behind["held"] = "STREAM_BEGUN"
     prefix["Refusal"] = "REFUSED"; prefix["Rejection"] = "REFUSED"; prefix["Verdict"] = "REFUSED"; prefix["Checked"] = "CHECKED"
 }
 
@@ -105,6 +107,14 @@ FNR == 1 {
     sub(/\(.*/, "", name)
     sub(/.*::/, "", name)
     print "_Static_assert(RECOVERY_NODE_" toupper(name) " == " $1 ", \"" name "\");"
+}
+
+/^ +(let )?[a-z]+(:| = .*)[ (]numbers\[[0-9]+\]/ {
+    name = $1 == "let" ? $2 : $1
+    sub(/:$/, "", name)
+    place = $0
+    gsub(/.*numbers\[|\].*/, "", place)
+    print "_Static_assert(RECOVERY_" (name in behind ? behind[name] : "FIGURE_" toupper(name)) " == " place ", \"" name "\");"
 }
 
 /^pub extern "C" fn / { open = 1; text = "" }

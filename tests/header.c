@@ -1,6 +1,6 @@
 /*
  * include/recovery.h against the library: its sizes, numbers and types by the compiler, each function on sample sheets
- * by running. tests/header writes library.h from the Rattle sources.
+ * and streams by running. tests/header writes library.h from the Rattle sources.
  */
 #include <stdio.h>
 #include <string.h>
@@ -22,14 +22,20 @@ SAME(RECOVERY_HEAD_CELLS, routine__HEAD_CELLS);
 SAME(RECOVERY_NODE_CELLS, routine__NODE_CELLS);
 SAME(RECOVERY_SET_WORDS, routine__SET_WORDS);
 SAME(RECOVERY_MEMO_WORDS, verifier__MEMO_WORDS);
+SAME(RECOVERY_FIGURE_NUMBERS, release__Figures__NUMBERS);
+SAME(RECOVERY_STREAM_NUMBERS, recovery__STATE);
+SAME(RECOVERY_BEGUN_BYTES, release__Begun__BYTES);
 SAME(RECOVERY_SHEET_BYTES, 1024);
 SAME(RECOVERY_REPLY_BYTES, 64);
 SAME(RECOVERY_TRACE_BYTES, 129);
+SAME(RECOVERY_BEGUN_BYTES, 2 + 1024);
 SAME(MEMBER(struct recovery_record, sheet), runner__Record__SHEET);
 SAME(MEMBER(struct recovery_record, replies), runner__Record__REPLIES);
 SAME(MEMBER(struct recovery_tables, heads), 2 * routine__HEAD_CELLS);
 SAME(MEMBER(struct recovery_tables, nodes), 2 * routine__NODE_CELLS);
 SAME(MEMBER(struct recovery_tables, sets), 8 * routine__SET_WORDS);
+SAME(MEMBER(struct recovery_stream, numbers), 8 * recovery__STATE);
+SAME(MEMBER(struct recovery_stream, begun), release__Begun__BYTES);
 
 /* The members of what stands for an array are its elements, in order, of 8 bytes each. */
 #define ELEMENT(type, member, i) _Static_assert(offsetof(type, member) == 8 * (i) && MEMBER(type, member) == 8, #member)
@@ -42,8 +48,8 @@ ELEMENT(struct recovery_lengths, sheet, 0);
 ELEMENT(struct recovery_lengths, replies, 1);
 
 /*
- * Cases 1, 2, 3 and 9 of document 01, and case 2 with its action twice; of the samples with a constraint
- * never-both-live and no-state.
+ * Cases 1, 2, 3 and 9 of document 01, and case 2 with its action twice; of the samples twenty-probes, and with a
+ * constraint never-both-live and no-state.
  */
 static const uint8_t valid[] = {0x11, 0x0C, 0x90, 0x88, 0x1C, 0x40, 0x88, 0x20, 0x00};
 static const uint8_t invalid[] = {0x11, 0x0C, 0x90, 0x88, 0x11, 0x04, 0x00};
@@ -51,6 +57,8 @@ static const uint8_t refused[] = {0x11, 0x0C, 0x90, 0x88, 0x1C, 0x40, 0x88, 0x20
 static const uint8_t twice[] = {0x11, 0x0C, 0x90, 0x88, 0x11, 0x04, 0x08, 0x00};
 static const uint8_t branching[] = {0x12, 0x1C, 0xBA, 0x08, 0xCE, 0x82, 0x32, 0xA8, 0x23, 0x2A, 0x08, 0xAF, 0x62, 0x21,
                                     0xD9, 0x44, 0xE5, 0x41, 0x12, 0x54, 0x11, 0x41, 0x1D, 0x04, 0x50, 0x88, 0x90, 0x80};
+static const uint8_t stopped[] = {0x11, 0x0C, 0x89, 0x21, 0x40, 0x81, 0x02, 0x04, 0x08, 0x10, 0x20,
+                                  0x40, 0x81, 0x02, 0x04, 0x08, 0x10, 0x20, 0x40, 0x81, 0x02, 0x00};
 static const uint8_t constrained[] = {0x22, 0x95, 0x04, 0x45, 0x24, 0x22, 0x06, 0x0C,
                                       0x20, 0x44, 0x50, 0x42, 0x02, 0x10};
 static const uint8_t stateless[] = {0x21, 0xA8, 0x44, 0x00, 0x02, 0x00};
@@ -63,10 +71,13 @@ static uint8_t trace[RECOVERY_TRACE_BYTES + 8], marked_trace[RECOVERY_TRACE_BYTE
 static uint64_t memo[RECOVERY_MEMO_WORDS], marked_memo[RECOVERY_MEMO_WORDS], no_memo[RECOVERY_MEMO_WORDS];
 static uint64_t set[RECOVERY_STATE_WORDS], marked_set[RECOVERY_STATE_WORDS];
 static uint8_t lines[RECOVERY_LINE_BYTES], marked_lines[RECOVERY_LINE_BYTES];
+static struct recovery_stream stream, marked_stream;
+static uint64_t figures[RECOVERY_FIGURE_NUMBERS];
 
 #define SHEET(bytes) (bytes), sizeof(bytes)
 #define RECORD record.sheet, record.replies, &record.lengths
 #define TABLES tables.heads, tables.nodes, tables.sets
+#define STREAM stream.numbers, stream.begun
 #define IS(a, b) (memcmp(&(a), &(b), sizeof(a)) == 0)
 #define COPY(to, from) memcpy(&(to), &(from), sizeof(to))
 
@@ -93,6 +104,8 @@ static void mark(void)
     memset(memo, 0xA5, sizeof memo);
     memset(set, 0xA5, sizeof set);
     memset(lines, 0xA5, sizeof lines);
+    memset(&stream, 0xA5, sizeof stream);
+    memset(figures, 0xA5, sizeof figures);
     COPY(marked_tables, tables);
     COPY(marked_record, record);
     COPY(marked_verdict, verdict);
@@ -101,6 +114,7 @@ static void mark(void)
     COPY(marked_memo, memo);
     COPY(marked_set, set);
     COPY(marked_lines, lines);
+    COPY(marked_stream, stream);
 }
 
 static int verdict_is(enum recovery_verdict_kind kind, uint64_t count, uint64_t length)
@@ -253,10 +267,135 @@ static void walking(void)
     EXPECT(set[0] == 2 && set[1] == 0 && set[2] == 0 && set[3] == 0);
 }
 
+/* The bytes of a stream. */
+static uint8_t bytes[2048];
+static size_t length;
+
+static void put(const uint8_t *sheet, size_t sheet_length)
+{
+    bytes[length++] = (uint8_t)(sheet_length / 256);
+    bytes[length++] = (uint8_t)(sheet_length % 256);
+    memcpy(bytes + length, sheet, sheet_length);
+    length += sheet_length;
+}
+
+static int starts_with(const uint64_t *numbers, uint64_t valid, uint64_t invalid, uint64_t stopped, uint64_t refused,
+                       uint64_t sum, uint64_t greatest)
+{
+    return numbers[RECOVERY_FIGURE_VALID] == valid && numbers[RECOVERY_FIGURE_INVALID] == invalid &&
+           numbers[RECOVERY_FIGURE_STOPPED] == stopped && numbers[RECOVERY_FIGURE_REFUSED] == refused &&
+           numbers[RECOVERY_FIGURE_SUM] == sum && numbers[RECOVERY_FIGURE_GREATEST] == greatest;
+}
+
+/* The figures are printed so, and what is behind them is left. */
+static int prints(const char *line)
+{
+    size_t expected = strlen(line);
+
+    COPY(lines, marked_lines);
+    return recovery_figures_print(figures, lines) == expected && memcmp(lines, line, expected) == 0 &&
+           memcmp(lines + expected, marked_lines + expected, sizeof lines - expected) == 0;
+}
+
+static void feeding(void)
+{
+    static const uint8_t too_long[RECOVERY_SHEET_BYTES + 1] = {0x11};
+    static const uint8_t empty_sheets[2 * 65534];
+    static const size_t sizes[] = {1, 2, 3, 1000, sizeof bytes};
+    static const uint8_t cut[] = {0, 9, 0x11, 0x0C, 0x90, 0x88, 0x1C};
+    static struct recovery_stream expected;
+    size_t at, piece;
+
+    /* No bytes. */
+    mark();
+    memset(&stream, 0, sizeof stream);
+    EXPECT(recovery_figures_feed(bytes, 0, STREAM, TABLES, memo) == 0 && IS(stream, expected));
+    EXPECT(IS(tables, marked_tables) && IS(memo, marked_memo));
+    recovery_figures_end(STREAM, figures);
+    EXPECT(starts_with(figures, 0, 0, 0, 0, 0, 0) && IS(stream, expected) && prints("0 0 0 0 0 0\n"));
+
+    /* No two numbers of the state are the same, nor any two figures. */
+    put(SHEET(refused));
+    put(SHEET(too_long));
+    put(SHEET(valid));
+    put(SHEET(invalid));
+    put(SHEET(stopped));
+    put(SHEET(stateless));
+    put(SHEET(twice));
+    put(SHEET(invalid));
+    put(bytes, 0);
+    put(SHEET(branching));
+    put(SHEET(constrained));
+    put(SHEET(invalid));
+    put(bytes, 0);
+    memcpy(bytes + length, cut, sizeof cut);
+    length += sizeof cut;
+    COPY(prepared, marked_tables);
+#define PREPARE(sheet) recovery_prepare(SHEET(sheet), prepared.heads, prepared.nodes, prepared.sets, set)
+    EXPECT(PREPARE(valid) + PREPARE(invalid) + PREPARE(stopped) + PREPARE(twice) + PREPARE(invalid) == 0);
+    EXPECT(PREPARE(branching) + PREPARE(constrained) + PREPARE(invalid) == 0);
+    memcpy(expected.begun, cut, sizeof cut);
+    for (size_t i = 0; i < sizeof sizes / sizeof *sizes; i++) {
+        mark();
+        memset(&stream, 0, sizeof stream);
+        for (at = 0; at < length; at += piece) {
+            piece = sizes[i] < length - at ? sizes[i] : length - at;
+            EXPECT(recovery_figures_feed(bytes + at, piece, STREAM, TABLES, memo) == 0);
+        }
+        EXPECT(starts_with(stream.numbers, 3, 4, 1, 5, 1000022, 2));
+        EXPECT(stream.numbers[RECOVERY_STREAM_LENGTHS] == 13 && stream.numbers[RECOVERY_STREAM_BEGUN] == sizeof cut);
+        EXPECT(IS(stream.begun, expected.begun) && IS(tables, prepared) && IS(memo, no_memo));
+        COPY(expected, stream);
+        recovery_figures_end(STREAM, figures);
+        EXPECT(starts_with(figures, 3, 4, 1, 6, 1000022, 2) && IS(stream, expected));
+        EXPECT(prints("3 4 1 6 1000022 2\n"));
+    }
+
+    /* Where no sheet is accepted, be it the first of the piece or one that is cut. */
+    mark();
+    memset(&stream, 0, sizeof stream);
+    EXPECT(recovery_figures_feed(bytes, 2 + sizeof refused + 2 + sizeof too_long + 3, STREAM, TABLES, memo) == 0);
+    EXPECT(IS(tables, marked_tables) && IS(memo, marked_memo));
+    EXPECT(starts_with(stream.numbers, 0, 0, 0, 2, 0, 0) && stream.numbers[RECOVERY_STREAM_BEGUN] == 3);
+
+    /* Of a sheet that is too long its length is kept, and the number of its bytes. */
+    memset(&stream, 0, sizeof stream);
+    memset(&expected, 0, sizeof expected);
+    expected.numbers[RECOVERY_FIGURE_REFUSED] = expected.numbers[RECOVERY_STREAM_LENGTHS] = 1;
+    expected.numbers[RECOVERY_STREAM_BEGUN] = 12;
+    memcpy(expected.begun, bytes + 2 + sizeof refused, 2);
+    EXPECT(recovery_figures_feed(bytes, 2 + sizeof refused + 12, STREAM, TABLES, memo) == 0 && IS(stream, expected));
+
+    /* 65,535 lengths: the sheet of the last is read, and nothing behind it. */
+    length = 0;
+    put(SHEET(valid));
+    memset(&stream, 0, sizeof stream);
+    EXPECT(recovery_figures_feed(SHEET(empty_sheets), STREAM, TABLES, memo) == 0);
+    EXPECT(starts_with(stream.numbers, 0, 0, 0, 65534, 0, 0) && stream.numbers[RECOVERY_STREAM_LENGTHS] == 65534);
+    EXPECT(recovery_figures_feed(bytes, length - 1, STREAM, TABLES, memo) == 0);
+    put(SHEET(valid));
+    EXPECT(recovery_figures_feed(bytes + length / 2 - 1, 1 + length / 2, STREAM, TABLES, memo) == 1);
+    COPY(expected, stream);
+    EXPECT(recovery_figures_feed(bytes, length, STREAM, TABLES, memo) == 1 && IS(stream, expected));
+    recovery_figures_end(STREAM, figures);
+    EXPECT(stream.numbers[RECOVERY_STREAM_LENGTHS] == 65535 && prints("1 0 0 65534 2 0\n"));
+
+    /* A state that no stream leaves, and the longest line. */
+    mark();
+    EXPECT(recovery_figures_feed(bytes, length, STREAM, TABLES, memo) == 1 && IS(tables, marked_tables));
+    COPY(expected, marked_stream);
+    expected.numbers[RECOVERY_STREAM_BEGUN] = 0;
+    memset(expected.begun, 0, sizeof expected.begun);
+    EXPECT(IS(stream, expected));
+    memset(figures, 0xFF, sizeof figures);
+    EXPECT(recovery_figures_print(figures, lines) == 126 && memcmp(lines, "18446744073709551615 1844", 25) == 0);
+}
+
 int main(void)
 {
     verifying();
     running();
     walking();
+    feeding();
     return failed;
 }

@@ -4,12 +4,14 @@ mod common;
 
 use std::fs;
 use std::path::PathBuf;
+use std::process::Command;
 
 use common::{
     decided, fact, known, new, not_known, nots, plain, sequence, stays, test, unbits, unhex,
     verdict,
 };
 use reference::encode::encode;
+use reference::figures::{figures, stream_of};
 use reference::print::lines;
 use reference::read::read;
 use reference::refusal::Refusal;
@@ -151,6 +153,15 @@ fn case_16() -> Sheet {
     }
 }
 
+/// The number of histories, 2^21 - 2, exceeds the budget.
+fn twenty_probes() -> Sheet {
+    Sheet {
+        actions: vec![Action::Probe(vec![Objective::True; 2])],
+        program: sequence(&[0; 20]),
+        ..plain()
+    }
+}
+
 /// Trunk live is fact 0 and standby live fact 1. Action 0 probes the trunk, action 1
 /// makes it live and says nothing of the standby.
 fn trunk_and_standby(constraint: Objective) -> Sheet {
@@ -233,6 +244,11 @@ fn cases() -> Vec<(&'static str, Vec<u8>, &'static str)> {
         ("14b", encode(&case_14(17)), "refused 8\n"),
         ("15", encode(&case_15()), "refused 13\n"),
         ("16", encode(&case_16()), "refused 15\n"),
+        (
+            "twenty-probes",
+            encode(&twenty_probes()),
+            "stopped 1000000\n",
+        ),
         ("never-both-live", encode(&never_both_live()), "valid 3\n"),
         (
             "both-may-be-live",
@@ -309,6 +325,7 @@ fn accepted_cases_read_back() {
         case_11(),
         case_12(),
         case_14(16),
+        twenty_probes(),
         never_both_live(),
         both_may_be_live(),
         stuck_outside(),
@@ -329,15 +346,51 @@ fn example_2012_with_its_own_goal() {
     );
 }
 
+fn directory() -> PathBuf {
+    PathBuf::from(env!("CARGO_MANIFEST_DIR")).join("../samples")
+}
+
+fn file(name: &str) -> String {
+    let path = directory().join(name);
+    fs::read_to_string(&path).unwrap_or_else(|error| panic!("{}: {error}", path.display()))
+}
+
 #[test]
 fn sample_files() {
-    let directory = PathBuf::from(env!("CARGO_MANIFEST_DIR")).join("../samples");
-    let file = |name: &str| {
-        let path = directory.join(name);
-        fs::read_to_string(&path).unwrap_or_else(|error| panic!("{}: {error}", path.display()))
-    };
     for (name, bytes, output) in cases() {
         assert_eq!(unhex(&file(&format!("{name}.hex"))), bytes, "case {name}");
         assert_eq!(file(&format!("{name}.out")), output, "case {name}");
     }
+}
+
+/// What `samples/stream` writes for these cases.
+fn written_stream(names: &[&str]) -> Vec<u8> {
+    let output = Command::new(directory().join("stream"))
+        .args(names)
+        .output()
+        .expect("a script");
+    assert!(output.status.success(), "{}", output.status);
+    output.stdout
+}
+
+#[test]
+fn sample_stream() {
+    let mut cases = cases();
+    cases.sort();
+    let sheets = |cases: &[(&str, Vec<u8>, &str)]| {
+        let sheets = cases.iter().map(|(_, bytes, _)| bytes);
+        stream_of(sheets)
+    };
+    let stream = sheets(&cases);
+    assert_eq!(written_stream(&[]), stream);
+    let some: Vec<_> = cases.iter().step_by(3).cloned().collect();
+    let names: Vec<&str> = some.iter().map(|(name, _, _)| *name).collect();
+    assert_eq!(written_stream(&names), sheets(&some));
+
+    let line = |stream| String::from_utf8(figures(stream).line()).expect("ASCII");
+    assert_eq!(line(&stream), "7 4 1 14 1000028 2\n");
+    assert_eq!(line(&stream), file("stream.out"));
+    let cut = &stream[..stream.len() - 1];
+    assert_eq!(line(cut), "7 4 0 15 28 2\n");
+    assert_eq!(line(cut), file("cut-stream.out"));
 }

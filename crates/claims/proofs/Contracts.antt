@@ -12,8 +12,8 @@ use Rattle.progression.specs.Machine.{knownBy, settled, stepped}
 use Rattle.runner.specs.Calls.{Form}
 use Rattle.runner.proofs.ListLaws.{RunnerContracts, Going}
 use Rattle.claims.specs.Library.{Library, Gave}
-use Rattle.claims.specs.Library.{ToVerify, AfterVerify, ToCheck, AfterCheck, ToPrepare, AfterPrepare, ToStep, ToSettle, ToKnow, ToLoad, AfterLoad, ToNext, AfterNext, ToReport, AfterReport}
-use Rattle.claims.specs.Terms.{verifiedAs, checkedAs, preparedAs, loadedAs, toldAs, reportedAs}
+use Rattle.claims.specs.Library.{ToVerify, AfterVerify, ToCheck, AfterCheck, ToPrepare, AfterPrepare, ToStep, ToSettle, ToKnow, ToLoad, AfterLoad, ToNext, AfterNext, ToReport, AfterReport, AfterPrint, ToFeed, AfterFeed, ToFinish, ToLine}
+use Rattle.claims.specs.Terms.{verifiedAs, checkedAs, preparedAs, loadedAs, toldAs, reportedAs, fedAs, finishedAs, lineAs}
 
 pub record Contracts {ℓ} (library : Library {ℓ}) : Type ℓ where
   pub read-contract : (sheet : List ℕ) (a : Answer (Unit {0})) → Gave (library .read) sheet a → a ≡ withoutValue (reading sheet)
@@ -28,4 +28,7 @@ pub record Contracts {ℓ} (library : Library {ℓ}) : Type ℓ where
   pub load-contract : (form : Form) (x : ToLoad) (y : AfterLoad) → Gave (library .load form) x y → y ≡ loadedAs form x
   pub next-contract : (form : Form) (x : ToNext) (y : AfterNext) → Gave (library .next form) x y → y ≡ toldAs form x
   pub report-contract : (form : Form) (x : ToReport) (y : AfterReport) → Gave (library .report form) x y → y ≡ reportedAs form x
+  pub feed-contract : (x : ToFeed) (y : AfterFeed) → Gave (library .feed) x y → y ≡ fedAs x
+  pub finish-contract : (x : ToFinish) (figures : List ℕ) → Gave (library .finish) x figures → figures ≡ finishedAs x
+  pub line-contract : (x : ToLine) (y : AfterPrint) → Gave (library .line) x y → y ≡ lineAs x
   pub going : Going (library .runner)

@@ -50,7 +50,7 @@ use Rattle.claims.specs.Terms.{tablesLeft, memoLeft, verifiedAs, checked
 use Rattle.claims.proofs.SetLaws.{unit-answer-set, bool-answer-set, verdict-answer-set, told-answer-set, place-set, record-set, tables-set}
 use Rattle.claims.proofs.NumberLaws.{reading-numbered, checked-numbered, verified-numbered, next-numbered, report-numbered}
 
-list-set : IsSet (List ℕ)
+pub list-set : IsSet (List ℕ)
 list-set = List·isSet ℕ-set
 
 module _ {M : Type 1} (𝓤 : URA M) (H : Heap 𝓤) (𝓜 : Model 𝓤 H) (𝓖 : GhostRules 𝓤 H) where
@@ -61,10 +61,10 @@ module _ {M : Type 1} (𝓤 : URA M) (H : Heap 𝓤) (𝓜 : Model 𝓤 H) (𝓖
   module _ {Takes Gives : Type 0} (function : Routine) (arguments : (ℕ → Place) → Takes → List Argument)
       (means : (ℕ → Place) → Takes → Gives → Val → List Argument → Type 0) (result : Takes → Val) (last : (ℕ → Place) → Takes → List Argument)
       (leaves : (p : ℕ → Place) (x : Takes) → Leaves 𝓤 H 𝓜 𝓖 function (arguments p x) (result x) (last p x)) where
-    abbrev Meant : Takes → Gives → Type 1
+    abbrev pub Meant : Takes → Gives → Type 1
     Meant x y = (p : ℕ → Place) × ((others : List Argument) × Callable 𝓤 H 𝓜 (arguments p x) others) × means p x y (result x) (last p x)
 
-    every-ends : ((p : ℕ → Place) (x : Takes) (others : List Argument) → Callable 𝓤 H 𝓜 (arguments p x) others → ∥ ((y : Gives) × means p x y (result x) (last p x)) ∥₁)
+    pub every-ends : ((p : ℕ → Place) (x : Takes) (others : List Argument) → Callable 𝓤 H 𝓜 (arguments p x) others → ∥ ((y : Gives) × means p x y (result x) (last p x)) ∥₁)
         → EveryCallEnds (compiled 𝓤 H 𝓜 function arguments means)
     unfolding EveryCallEnds
     every-ends says x call =
@@ -72,7 +72,7 @@ module _ {M : Type 1} (𝓤 : URA M) (H : Heap 𝓤) (𝓜 : Model 𝓤 H) (𝓖
         ∥∥₁-map (calls.ended 𝓤 H 𝓜 𝓖 function (arguments (call .0) x) (result x) (last (call .0) x) (leaves (call .0) x) (call .1) (call .2)) (λ e.
         (y .0, (result x, last (call .0) x, e, y .1))))
 
-    gave-meant : (x : Takes) (y : Gives) → Gave (compiled 𝓤 H 𝓜 function arguments means) x y → ∥ Meant x y ∥₁
+    pub gave-meant : (x : Takes) (y : Gives) → Gave (compiled 𝓤 H 𝓜 function arguments means) x y → ∥ Meant x y ∥₁
     unfolding Gave
     gave-meant x y g =
         let p = g .0 .0 in

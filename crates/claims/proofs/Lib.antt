@@ -1,6 +1,7 @@
 pub mod SetLaws
 pub mod NumberLaws
 pub mod FunctionRuns
+pub mod StreamRuns
 pub mod RunnerRuns
 pub mod Contracts
 pub mod Demand1Laws
@@ -8,5 +9,7 @@ pub mod TableLaws
 pub mod Demand2Laws
 pub mod Demand3Laws
 pub mod ConstraintLaws
+pub mod ReleaseLaws
 pub mod SupportLaws
+pub mod StreamSupport
 pub mod Theorem

@@ -57,12 +57,12 @@ report-as form r x y s e = (
 )
 
 -- Memory of zeros, for what a call is lent beside the record.
-zeros-under : (m : ℕ) → 0 < m → (n : ℕ) → AllUnder m (replicate n 0)
+pub zeros-under : (m : ℕ) → 0 < m → (n : ℕ) → AllUnder m (replicate n 0)
 unfolding AllUnder
 zeros-under m h zero = tt
 zeros-under m h (suc n) = (h, zeros-under m h n)
 
-abbrev zeroTables : Tables
+abbrev pub zeroTables : Tables
 zeroTables = record { heads = replicate (3 * headMost) 0; nodes = replicate (3 * nodeMost) 0; sets = replicate (4 * setMost) 0 }
 
 abbrev nowhere : Place

@@ -32,7 +32,8 @@ use Rattle.progression.specs.Machine.{effect, stepped, Inside}
 use Rattle.runner.specs.declared.calls.Record.{Record}
 use Rattle.runner.specs.Calls.{Form, own, lent}
 use Rattle.recovery.specs.Numbers.{memoryAfter, startWords, lengthsOf}
-use Rattle.recovery.specs.Arguments.{Tables, tablesAfter, recordAt, toRead, toPrepare, toStep, toSettle, toKnow, toPrint, toldWidth}
+use Rattle.recovery.specs.Arguments.{Tables, tablesAfter, recordAt, toRead, toPrepare, toStep, toSettle, toKnow, toPrint, toldWidth, memoWidth, stateWidth, figuresWidth, toFeed, toEnd, toLine}
+use Rattle.release.specs.Framing.{mostBegun}
 use Rattle.claims.specs.Library.{Library, Gave, CanBeCalled, ToPrepare, AfterPrepare, ToStep, ToSettle}
 use Rattle.claims.specs.Linked.{verifying, checking, loading, telling, reporting, linked}
 use Rattle.claims.specs.Terms.{preparedAs}
@@ -77,7 +78,7 @@ step-fits heads sets set a r =
     either (ltb r (headAt heads a .count)) (setOf kept) (setOf none) (fitting-setOf kept) (fitting-setOf none)
 
 -- Prepared tables.
-tables-fit : (sheet : List ℕ) (t : Tables) → TablesFit t → TablesFit (tablesAfter (reading sheet) t)
+pub tables-fit : (sheet : List ℕ) (t : Tables) → TablesFit t → TablesFit (tablesAfter (reading sheet) t)
 tables-fit sheet t f = record {
   heads = record {
     long = prepared-heads-length sheet (t .heads) (f .heads .long);
@@ -210,6 +211,23 @@ module _ {M : Type 1} (𝓤 : URA M) (H : Heap 𝓤) (𝓜 : Model 𝓤 H) (𝓖
       some-call (reporting lent nowhere (x .kept) (x .reply) (x .tables))
       (f .0 .sheet .long, (f .0 .replies .long, (refl, (f .1, (f .2 .heads .long, (f .2 .nodes .long, (f .2 .sets .long, tt)))))))
       (f .0 .sheet .small, (f .0 .replies .small, ((f .0 .len, (f .0 .count, tt)), (f .2 .heads .small, (f .2 .nodes .small, (f .2 .sets .small, tt))))))
+
+  -- The functions of a stream's figures.
+  pub can-feed : CanBeCalled (library .feed)
+      (λ x. Bytes (x .piece) × Numbers 64 stateWidth (x .numbers) × Numbers 8 mostBegun (x .begun) × TablesFit (x .tables) × Numbers 64 memoWidth (x .memo))
+  unfolding CanBeCalled AllFit Fits AllSmall
+  can-feed x f =
+      some-call (toFeed nowhere (x .piece) (x .numbers) (x .begun) (x .tables) (x .memo))
+      (short (f .0), (f .1 .long, (f .2 .long, (f .3 .heads .long, (f .3 .nodes .long, (f .3 .sets .long, (f .4 .long, tt)))))))
+      (f .0 .small, (f .1 .small, (f .2 .small, (f .3 .heads .small, (f .3 .nodes .small, (f .3 .sets .small, (f .4 .small, tt)))))))
+
+  pub can-finish : CanBeCalled (library .finish) (λ x. Numbers 64 stateWidth (x .numbers) × Numbers 8 mostBegun (x .begun) × Numbers 64 figuresWidth (x .figures))
+  unfolding CanBeCalled AllFit Fits AllSmall
+  can-finish x f = some-call (toEnd nowhere (x .numbers) (x .begun) (x .figures)) (f .0 .long, (f .1 .long, (f .2 .long, tt))) (f .0 .small, (f .1 .small, (f .2 .small, tt)))
+
+  pub can-line : CanBeCalled (library .line) (λ x. Numbers 64 figuresWidth (x .figures) × Numbers 8 mostLines (x .out))
+  unfolding CanBeCalled AllFit Fits AllSmall
+  can-line x f = some-call (toLine nowhere (x .figures) (x .out)) (f .0 .long, (f .1 .long, tt)) (f .0 .small, (f .1 .small, tt))
 
   -- A record lies somewhere.
   pub kept-somewhere : (r : Record) → RecordFits r → ∥ ((k : library .runner .Kept) × (library .runner .recordIn k ≡ r)) ∥₁

@@ -13,12 +13,15 @@ use Rattle.claims.specs.Support.{Support}
 use Rattle.claims.specs.Theorem.{Theorem, ClosedTheorem}
 use Rattle.claims.proofs.Contracts.{Contracts}
 use Rattle.claims.proofs.FunctionRuns as functions
+use Rattle.claims.proofs.StreamRuns as streams
+use Rattle.claims.proofs.StreamSupport as fed
 use Rattle.claims.proofs.RunnerRuns as runs
 use Rattle.claims.proofs.Demand1Laws as laws
 use Rattle.claims.proofs.SupportLaws as supports
 use Rattle.claims.proofs.Demand2Laws.{demand2}
 use Rattle.claims.proofs.Demand3Laws.{demand3}
 use Rattle.claims.proofs.ConstraintLaws.{constraint}
+use Rattle.claims.proofs.ReleaseLaws.{release}
 
 module _ {M : Type 1} (𝓤 : URA M) (H : Heap 𝓤) (𝓜 : Model 𝓤 H) (𝓖 : GhostRules 𝓤 H) where
   abbrev library : Library {1}
@@ -38,6 +41,9 @@ module _ {M : Type 1} (𝓤 : URA M) (H : Heap 𝓤) (𝓜 : Model 𝓤 H) (𝓖
     load-contract = functions.load-fixed 𝓤 H 𝓜 𝓖;
     next-contract = functions.next-fixed 𝓤 H 𝓜 𝓖;
     report-contract = functions.report-fixed 𝓤 H 𝓜 𝓖;
+    feed-contract = streams.feed-fixed 𝓤 H 𝓜 𝓖;
+    finish-contract = streams.finish-fixed 𝓤 H 𝓜 𝓖;
+    line-contract = streams.line-fixed 𝓤 H 𝓜 𝓖;
     going = runs.going 𝓤 H 𝓜 𝓖;
   }
 
@@ -57,6 +63,9 @@ module _ {M : Type 1} (𝓤 : URA M) (H : Heap 𝓤) (𝓜 : Model 𝓤 H) (𝓖
     load-ends = functions.load-ends 𝓤 H 𝓜 𝓖;
     next-ends = functions.next-ends 𝓤 H 𝓜 𝓖;
     report-ends = functions.report-ends 𝓤 H 𝓜 𝓖;
+    feed-ends = streams.feed-ends 𝓤 H 𝓜 𝓖;
+    finish-ends = streams.finish-ends 𝓤 H 𝓜 𝓖;
+    line-ends = streams.line-ends 𝓤 H 𝓜 𝓖;
     read-fixed = functions.read-fixed 𝓤 H 𝓜 𝓖;
     verify-fixed = functions.verify-fixed 𝓤 H 𝓜 𝓖;
     check-fixed = functions.check-fixed 𝓤 H 𝓜 𝓖;
@@ -68,6 +77,9 @@ module _ {M : Type 1} (𝓤 : URA M) (H : Heap 𝓤) (𝓜 : Model 𝓤 H) (𝓖
     load-fixed = functions.load-fixed 𝓤 H 𝓜 𝓖;
     next-fixed = functions.next-fixed 𝓤 H 𝓜 𝓖;
     report-fixed = functions.report-fixed 𝓤 H 𝓜 𝓖;
+    feed-fixed = streams.feed-fixed 𝓤 H 𝓜 𝓖;
+    finish-fixed = streams.finish-fixed 𝓤 H 𝓜 𝓖;
+    line-fixed = streams.line-fixed 𝓤 H 𝓜 𝓖;
     verify-refused = laws.verify-refused library contracts;
     check-refused = laws.check-refused library contracts;
     prepare-refused = laws.prepare-refused library contracts;
@@ -92,9 +104,15 @@ module _ {M : Type 1} (𝓤 : URA M) (H : Heap 𝓤) (𝓜 : Model 𝓤 H) (𝓖
     can-load = supports.can-load 𝓤 H 𝓜 𝓖;
     can-next = supports.can-next 𝓤 H 𝓜 𝓖;
     can-report = supports.can-report 𝓤 H 𝓜 𝓖;
+    can-feed = supports.can-feed 𝓤 H 𝓜 𝓖;
+    can-finish = supports.can-finish 𝓤 H 𝓜 𝓖;
+    can-line = supports.can-line 𝓤 H 𝓜 𝓖;
     kept-somewhere = supports.kept-somewhere 𝓤 H 𝓜 𝓖;
     lists-run = lists-run (library .runner) (runs.going 𝓤 H 𝓜 𝓖);
     list-answers = listed-answers (library .runner) (runs.runner-contracts 𝓤 H 𝓜 𝓖);
+    fed-fit = fed.fed-fit 𝓤 H 𝓜 𝓖 contracts;
+    streams-fed = fed.streams-fed 𝓤 H 𝓜 𝓖 contracts;
+    sheets-answered = fed.sheets-answered 𝓤 H 𝓜 𝓖 contracts;
   }
 
 -- The proof.
@@ -104,6 +122,7 @@ demands M 𝓤 H 𝓜 𝓖 = record {
   demand2 = demand2 (linked 𝓤 H 𝓜) (contracts 𝓤 H 𝓜 𝓖);
   demand3 = demand3 (linked 𝓤 H 𝓜) (contracts 𝓤 H 𝓜 𝓖);
   constraint = constraint (linked 𝓤 H 𝓜) (contracts 𝓤 H 𝓜 𝓖);
+  release = release (linked 𝓤 H 𝓜) (contracts 𝓤 H 𝓜 𝓖);
   support = support 𝓤 H 𝓜 𝓖;
 }
 

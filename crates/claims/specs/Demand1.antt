@@ -15,8 +15,9 @@ use Rattle.runner.specs.Calls.{Form}
 use Rattle.claims.specs.Library.{Library, Gave, EveryCallEnds, ToVerify, AfterVerify, ToCheck, AfterCheck, ToPrint, AfterPrint}
 use Rattle.claims.specs.Library.{ToPrepare, AfterPrepare, ToStep, ToSettle, ToKnow}
 use Rattle.claims.specs.Library.{ToLoad, AfterLoad, ToNext, AfterNext, ToReport, AfterReport}
+use Rattle.claims.specs.Library.{ToFeed, AfterFeed, ToFinish, ToLine}
 use Rattle.claims.specs.Terms.{OnlyOldBytes, FailingTrace, AsBefore}
-use Rattle.claims.specs.Terms.{verifiedAs, checkedAs, printedAs, preparedAs, loadedAs, toldAs, reportedAs}
+use Rattle.claims.specs.Terms.{verifiedAs, checkedAs, printedAs, preparedAs, loadedAs, toldAs, reportedAs, fedAs, finishedAs, lineAs}
 
 module _ {ℓ} (library : Library {ℓ}) where
   pub record Demand1 : Type ℓ where
@@ -40,6 +41,9 @@ module _ {ℓ} (library : Library {ℓ}) where
     pub load-ends : (form : Form) → EveryCallEnds (library .load form)
     pub next-ends : (form : Form) → EveryCallEnds (library .next form)
     pub report-ends : (form : Form) → EveryCallEnds (library .report form)
+    pub feed-ends : EveryCallEnds (library .feed)
+    pub finish-ends : EveryCallEnds (library .finish)
+    pub line-ends : EveryCallEnds (library .line)
     -- with an answer that document 01 fixes." (And with what it leaves in every memory.)
     pub read-fixed : (sheet : List ℕ) (a : Answer (Unit {0})) → Gave (library .read) sheet a → a ≡ withoutValue (reading sheet)
     pub verify-fixed : (form : Form) (x : ToVerify) (y : AfterVerify) → Gave (library .verify form) x y → y ≡ verifiedAs form x
@@ -54,6 +58,9 @@ module _ {ℓ} (library : Library {ℓ}) where
     pub load-fixed : (form : Form) (x : ToLoad) (y : AfterLoad) → Gave (library .load form) x y → y ≡ loadedAs form x
     pub next-fixed : (form : Form) (x : ToNext) (y : AfterNext) → Gave (library .next form) x y → y ≡ toldAs form x
     pub report-fixed : (form : Form) (x : ToReport) (y : AfterReport) → Gave (library .report form) x y → y ≡ reportedAs form x
+    pub feed-fixed : (x : ToFeed) (y : AfterFeed) → Gave (library .feed) x y → y ≡ fedAs x
+    pub finish-fixed : (x : ToFinish) (figures : List ℕ) → Gave (library .finish) x figures → figures ≡ finishedAs x
+    pub line-fixed : (x : ToLine) (y : AfterPrint) → Gave (library .line) x y → y ≡ lineAs x
     -- A refusal leaves every memory as it was, but for the record of zeros after a refused loading. (After "Next" and "Report" lent
     -- tables are those of the record's sheet, if it is accepted, whatever the answer.)
     pub verify-refused : (form : Form) (x : ToVerify) (y : AfterVerify) → Gave (library .verify form) x y

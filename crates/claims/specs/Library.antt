@@ -119,7 +119,33 @@ pub record AfterReport : Type 0 where
   pub kept : Record
   pub tables : Tables
 
--- The library, and its runner: in Linked its calls are calls of the last three functions on the memory that keeps the record.
+-- A piece of a stream of sheets, and the stream's state in two memories, before and after it.
+pub record ToFeed : Type 0 where
+  pub piece : List ℕ
+  pub numbers : List ℕ
+  pub begun : List ℕ
+  pub tables : Tables
+  pub memo : List ℕ
+
+pub record AfterFeed : Type 0 where
+  pub done : Bool
+  pub numbers : List ℕ
+  pub begun : List ℕ
+  pub tables : Tables
+  pub memo : List ℕ
+
+-- The state at the end of the stream, and memory for its figures.
+pub record ToFinish : Type 0 where
+  pub numbers : List ℕ
+  pub begun : List ℕ
+  pub figures : List ℕ
+
+-- Figures, and memory for their line.
+pub record ToLine : Type 0 where
+  pub figures : List ℕ
+  pub out : List ℕ
+
+-- The library, and its runner: in Linked its calls are calls of load, next and report on the memory that keeps the record.
 pub record Library {ℓ} : Type (ℓ + 1) where
   pub read : Function {ℓ} (List ℕ) (Answer (Unit {0}))
   pub verify : Form → Function {ℓ} ToVerify AfterVerify
@@ -132,4 +158,7 @@ pub record Library {ℓ} : Type (ℓ + 1) where
   pub load : Form → Function {ℓ} ToLoad AfterLoad
   pub next : Form → Function {ℓ} ToNext AfterNext
   pub report : Form → Function {ℓ} ToReport AfterReport
+  pub feed : Function {ℓ} ToFeed AfterFeed
+  pub finish : Function {ℓ} ToFinish (List ℕ)
+  pub line : Function {ℓ} ToLine AfterPrint
   pub runner : Runner {ℓ}

@@ -18,6 +18,7 @@ use Rattle.recovery.specs.Numbers.{verdictNumbers, toldNumbers, DoneRead, Value
 use Rattle.recovery.specs.Arguments.{Tables, recordAt}
 use Rattle.recovery.specs.Arguments.{toRead, toPrepare, toStep, toSettle, toKnow, toPrint}
 use Rattle.recovery.specs.Arguments.{toVerify, toVerifyIn, toCheck, toCheckIn, toLoad, toLoadIn, toNext, toNextIn, toReport, toReportIn}
+use Rattle.recovery.specs.Arguments.{toFeed, toEnd, toLine}
 use Rattle.recovery.proofs.recovery_read.Symbol as read-symbol
 use Rattle.recovery.proofs.recovery_verify.Symbol as verify-symbol
 use Rattle.recovery.proofs.recovery_verify_in.Symbol as verify-in-symbol
@@ -34,10 +35,14 @@ use Rattle.recovery.proofs.recovery_next.Symbol as next-symbol
 use Rattle.recovery.proofs.recovery_next_in.Symbol as next-in-symbol
 use Rattle.recovery.proofs.recovery_report.Symbol as report-symbol
 use Rattle.recovery.proofs.recovery_report_in.Symbol as report-in-symbol
+use Rattle.recovery.proofs.recovery_figures_feed.Symbol as feed-symbol
+use Rattle.recovery.proofs.recovery_figures_end.Symbol as finish-symbol
+use Rattle.recovery.proofs.recovery_figures_print.Symbol as line-symbol
 use Rattle.claims.specs.Library.{Function, Library}
 use Rattle.claims.specs.Library.{ToVerify, AfterVerify, ToCheck, AfterCheck, ToPrint, AfterPrint}
 use Rattle.claims.specs.Library.{ToPrepare, AfterPrepare, ToStep, ToSettle, ToKnow}
 use Rattle.claims.specs.Library.{ToLoad, AfterLoad, ToNext, AfterNext, ToReport, AfterReport}
+use Rattle.claims.specs.Library.{ToFeed, AfterFeed, ToFinish, ToLine}
 
 -- The functions and their arguments in each form, with tables of their own or with those that are lent.
 unfoldable pub verifier : Form → Routine
@@ -169,6 +174,14 @@ module _ {M : Type 1} (𝓤 : URA M) (H : Heap 𝓤) (𝓜 : Model 𝓤 H) where
         (λ p x y result last. (k : ℕ) × (result ≡ vint w64 k) × (last ≡ toSettle p (x .tables) (x .set) (x .at)) × PlaceRead k y);
     know = compiled known-symbol.routine (λ p (x : ToKnow). toKnow p (x .tables) (x .set) (x .formula))
         (λ p x y result last. (k : ℕ) × (result ≡ vint w8 k) × (last ≡ toKnow p (x .tables) (x .set) (x .formula)) × FlagRead k y);
+    feed = compiled feed-symbol.routine (λ p (x : ToFeed). toFeed p (x .piece) (x .numbers) (x .begun) (x .tables) (x .memo))
+        (λ p x (y : AfterFeed) result last. (k : ℕ) × (result ≡ vint w8 k)
+        × (last ≡ toFeed p (x .piece) (y .numbers) (y .begun) (y .tables) (y .memo)) × FlagRead k (y .done));
+    finish = compiled finish-symbol.routine (λ p (x : ToFinish). toEnd p (x .numbers) (x .begun) (x .figures))
+        (λ p x figures result last. (result ≡ vunit) × (last ≡ toEnd p (x .numbers) (x .begun) figures));
+    line = compiled line-symbol.routine (λ p (x : ToLine). toLine p (x .figures) (x .out))
+        (λ p x (y : AfterPrint) result last. (k : ℕ) × (result ≡ vint w64 k) × (last ≡ toLine p (x .figures) (y .out))
+        × (k ≡ length (y .lines)) × (y .lines ≡ take k (y .out)));
     load = loadCalls;
     next = nextCalls;
     report = reportCalls;

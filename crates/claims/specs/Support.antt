@@ -1,17 +1,21 @@
 -- What supports the demands: there are the calls of which they speak, for all numbers of the machine's sizes, and one leads to the next.
 use Prim.Native.Nat.{ℕ, _+_, _^_, _<_}
 use mathlib.Core.Path.{_≡_}
-use mathlib.Core.List.{List, [], map}
+use mathlib.Core.List.{List, [], _∷_, map, flatMap}
 use lib.ListN.{length}
 use Rattle.lists.specs.Lists.{AllUnder}
-use Rattle.format.specs.Format.{mostBytes, mostActs}
+use Rattle.format.specs.Format.{Answer, mostBytes, mostActs}
+use Rattle.semantics.specs.Verdict.{Verdict}
 use Rattle.semantics.specs.Printing.{mostLines}
 use Rattle.progression.specs.declared.place.Place.{Place as Stop}
 use Rattle.runner.specs.declared.calls.Record.{Record}
 use Rattle.runner.specs.Calls.{Form, Call, answersOn, Event, AllCallsFit, Calls}
 use Rattle.recovery.specs.Arguments.{Tables, setWidth, headsWidth, nodesWidth, setsWidth, memoWidth, verdictWidth, toldWidth}
+use Rattle.recovery.specs.Arguments.{stateWidth, figuresWidth}
+use Rattle.release.specs.Framing.{mostBegun}
 use Rattle.claims.specs.Library.{Library, Gave, CanBeCalled}
-use Rattle.claims.specs.Library.{ToVerify, ToPrepare, AfterPrepare, ToStep, ToSettle}
+use Rattle.claims.specs.Library.{ToVerify, ToPrepare, AfterPrepare, ToStep, ToSettle, ToFeed, AfterFeed}
+use Rattle.claims.specs.Release.{Figured, Answered}
 
 -- Numbers of so many bits, and how many; bytes of a slice.
 pub record Numbers (bits count : ℕ) (xs : List ℕ) : Type 0 where
@@ -21,6 +25,10 @@ pub record Numbers (bits count : ℕ) (xs : List ℕ) : Type 0 where
 pub record Bytes (xs : List ℕ) : Type 0 where
   pub short : length xs < 2 ^ 63
   pub small : AllUnder (2 ^ 8) xs
+
+unfoldable pub AllBytes : List (List ℕ) → Type 0
+AllBytes [] = Unit {0}
+AllBytes (xs ∷ rest) = Bytes xs × AllBytes rest
 
 -- Tables, a set, the arguments of each function and what lies in memory, of the machine's sizes.
 pub record TablesFit (t : Tables) : Type 0 where
@@ -61,11 +69,20 @@ module _ {ℓ} (library : Library {ℓ}) where
         (λ x. RecordFits (x .kept) × Numbers 64 toldWidth (x .told) × TablesFit (x .tables))
     pub can-report : (form : Form) → CanBeCalled (library .report form)
         (λ x. RecordFits (x .kept) × (x .reply < 2 ^ 8) × TablesFit (x .tables))
+    pub can-feed : CanBeCalled (library .feed)
+        (λ x. Bytes (x .piece) × Numbers 64 stateWidth (x .numbers) × Numbers 8 mostBegun (x .begun) × TablesFit (x .tables)
+        × Numbers 64 memoWidth (x .memo))
+    pub can-finish : CanBeCalled (library .finish)
+        (λ x. Numbers 64 stateWidth (x .numbers) × Numbers 8 mostBegun (x .begun) × Numbers 64 figuresWidth (x .figures))
+    pub can-line : CanBeCalled (library .line) (λ x. Numbers 64 figuresWidth (x .figures) × Numbers 8 mostLines (x .out))
     -- One call leads to the next: what it gave is of these sizes again.
     pub prepared-fit : (x : ToPrepare) (y : AfterPrepare) → Gave (library .prepare) x y → TablesFit (x .tables) → SetFits (x .start)
         → TablesFit (y .tables) × SetFits (y .start)
     pub stepped-fit : (x : ToStep) (set : List ℕ) → Gave (library .step) x set → SetFits set
     pub settled-fit : (x : ToSettle) (node a : ℕ) → Gave (library .settle) x (Stop.Act node a) → (node + 1 < 2 ^ 64) × (a < 2 ^ 64)
+    pub fed-fit : (x : ToFeed) (y : AfterFeed) → Gave (library .feed) x y → Bytes (x .piece) → Numbers 64 stateWidth (x .numbers)
+        → Numbers 8 mostBegun (x .begun) → TablesFit (x .tables) → Numbers 64 memoWidth (x .memo)
+        → Numbers 64 stateWidth (y .numbers) × Numbers 8 mostBegun (y .begun) × TablesFit (y .tables) × Numbers 64 memoWidth (y .memo)
     -- Every record lies somewhere, damaged or not; and on the record of any memory every list of calls of bytes is made, each in its form.
     -- (Where there is no room for what else a call is lent, from another memory with that record: `meanwhile`.)
     pub kept-somewhere : (r : Record) → RecordFits r → ∥ ((k : library .runner .Kept) × (library .runner .recordIn k ≡ r)) ∥₁
@@ -75,3 +92,9 @@ module _ {ℓ} (library : Library {ℓ}) where
     -- The answers to a list of calls follow from the record and the calls alone.
     pub list-answers : (k l : library .runner .Kept) (es : List Event) → Calls (library .runner) k es l
         → map (λ (e : Event). e .answer) es ≡ answersOn (library .runner .recordIn k) (map (λ (e : Event). e .call) es)
+    -- So there are the calls that feed a stream of bytes, in these pieces or others, and give its figures; and those that answer for any
+    -- sheets.
+    pub streams-fed : (pieces : List (List ℕ)) → AllBytes pieces
+        → ∥ ((numbers : List ℕ) × Figured library (flatMap (λ piece. piece) pieces) numbers) ∥₁
+    pub sheets-answered : (sheets : List (List ℕ)) → AllBytes sheets
+        → ∥ ((answers : List (Answer Verdict)) × Answered library sheets answers) ∥₁

@@ -13,14 +13,18 @@ use Rattle.semantics.specs.Runs.{History}
 use Rattle.semantics.specs.Routine.{Following, Failing}
 use Rattle.semantics.specs.Verdict.{historyCount, invalid, trace, admitted, verified, HistoryBefore, TraceBefore}
 use Rattle.semantics.specs.Checker.{checked}
-use Rattle.semantics.specs.Printing.{printed}
+use Rattle.semantics.specs.Printing.{printed, numbersLine}
+use Rattle.semantics.specs.Figures.{figureNumbers}
 use Rattle.verifier.specs.Answers.{cleared}
 use Rattle.runner.specs.Records.{loaded, sheetIn, nextOn, reportOn, recordAfter}
 use Rattle.runner.specs.Calls.{Form, own, lent}
-use Rattle.recovery.specs.Numbers.{memoryAfter, startWords, verdictNumbers, toldNumbers}
-use Rattle.recovery.specs.Arguments.{Tables, tablesAfter}
+use Rattle.release.specs.Counting.{meantBy}
+use Rattle.release.specs.Feeding.{fed, isDone, ended, readBy, clearedAll}
+use Rattle.recovery.specs.Numbers.{memoryAfter, startWords, verdictNumbers, toldNumbers, lentRelease, releaseNumbers}
+use Rattle.recovery.specs.Arguments.{Tables, tablesAfter, tablesAfterAll}
 use Rattle.claims.specs.Library.{ToVerify, AfterVerify, ToCheck, AfterCheck, ToPrint, AfterPrint, ToPrepare, AfterPrepare}
 use Rattle.claims.specs.Library.{ToLoad, AfterLoad, ToNext, AfterNext, ToReport, AfterReport}
+use Rattle.claims.specs.Library.{ToFeed, AfterFeed, ToFinish, ToLine}
 
 -- The trace memory has only its old bytes, and the answer is not "invalid"; or it begins with the trace of a failing run, and it is.
 unfoldable pub OnlyOldBytes : ToVerify → AfterVerify → Type 0
@@ -97,6 +101,27 @@ reportedAs form x = record {
   kept = recordAfter (x .kept) (x .reply);
   tables = tablesLeft form (sheetIn (x .kept)) (x .tables);
 }
+
+-- Of the functions of a stream's figures, for any numbers in the memory of its state.
+unfoldable pub fedAs : ToFeed → AfterFeed
+unfolding lentRelease isDone releaseNumbers fed readBy clearedAll
+fedAs x =
+    let state = lentRelease (x .numbers) (x .begun) in
+    record {
+      done = isDone (fed state (x .piece));
+      numbers = releaseNumbers (fed state (x .piece));
+      begun = fed state (x .piece) .begun .bytes;
+      tables = tablesAfterAll (readBy state (x .piece)) (x .tables);
+      memo = clearedAll (readBy state (x .piece)) (x .memo);
+    }
+
+unfoldable pub finishedAs : ToFinish → List ℕ
+unfolding figureNumbers meantBy ended lentRelease
+finishedAs x = figureNumbers (meantBy (ended (lentRelease (x .numbers) (x .begun))))
+
+unfoldable pub lineAs : ToLine → AfterPrint
+unfolding numbersLine write
+lineAs x = record { lines = numbersLine (x .figures); out = write (x .out) 0 (numbersLine (x .figures)) }
 
 -- Every memory that was lent is as it was.
 unfoldable pub AsBefore : ToVerify → AfterVerify → Type 0

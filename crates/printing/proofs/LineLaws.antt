@@ -1,22 +1,22 @@
 -- Laws of the printed lines: digits, decimals and bytes in hexadecimal, and parts put one behind the other. Assumes nothing.
 use Prim.Native.Nat.{ℕ, zero, suc, _+_, _-_, _*_, _/_, _%_, _^_, _≤_, _<_}
 use mathlib.Core.Path.{_≡_, refl, ap, ap₂, sym, subst, _∙_}
-use mathlib.Core.List.{List, [], _∷_, _++_}
+use mathlib.Core.List.{List, [], _∷_, _++_, append-assoc}
 use mathlib.Core.Bool.{Bool, true, false}
 use native.Mathlib.Omega.{arith}
 use native.Mathlib.Nat.{pow-suc}
 use lib.Dec.{ltb}
 use borrow.Author.Tests.{ltb-true, ltb-false, lt-ltb, le-ltb}
 use lib.ListN.{length, getD, take, drop, set, length-append, drop-of-length-le}
-use lib.Seq.{take-suc, drop-cons, length-take-le}
+use lib.Seq.{take-suc, take-all, drop-cons, length-take-le}
 use Rattle.lists.specs.Lists.{if_then_else_, write}
 use Rattle.reader.specs.declared.refusal.Refusal.{Refusal}
 use Rattle.format.specs.Format.{gives}
 use Rattle.reader.specs.Answers.{numberOf, numberFor}
 use Rattle.semantics.specs.Verdict.{invalid}
-use Rattle.semantics.specs.Printing.{space, lineFeed, digit, decimal, hexadecimal, invalidWord, refusedWord, endLine, printedFor, mostLines}
+use Rattle.semantics.specs.Printing.{space, lineFeed, digit, decimal, hexadecimal, invalidWord, refusedWord, endLine, printedFor, spaced, numbersLine, mostLines}
 use Rattle.semantics.proofs.PrintingLaws.{decimal-small, decimal-more}
-use Rattle.routine.proofs.WriteLaws.{written-on}
+use Rattle.routine.proofs.WriteLaws.{written-on, write-length}
 use Rattle.verifier.specs.declared.verdict.Verdict.{Verdict}
 use Rattle.verifier.specs.Answers.{answerOf}
 use Rattle.printing.specs.Lines.{Put, behindWord, shownIn, Printable}
@@ -61,6 +61,9 @@ decimal-length (suc k) n h =
 pub decimal-most : (n : ℕ) → n < 4294967296 → length (decimal n) ≤ 10
 decimal-most n h = decimal-length 9 n (omega arith)
 
+pub decimal-most-wide : (n : ℕ) → n < 18446744073709551616 → length (decimal n) ≤ 20
+decimal-most-wide n h = decimal-length 19 n (omega arith)
+
 -- A number's decimal is put: its one digit, or its last digit behind the others.
 pub put-small : (m : List ℕ) (at n d : ℕ) → n < 10 → d ≡ digit n → Put m (set m at d) at (at + 1) (decimal n)
 put-small m at n d h e = rw (decimal-small n h, sym e) (put-one m at d)
@@ -102,25 +105,56 @@ pub put-digits : (m : List ℕ) (at b high low : ℕ) → high ≡ digit (b / 16
 unfolding write hexadecimal
 put-digits m at b high low e f = rw (e, f)
 
--- One more byte of a trace.
-take-more : (trace : List ℕ) (i : ℕ) → 0 < i → i < length trace
-    → hexadecimal (take (i + 1) trace) ≡ hexadecimal (take i trace) ++ (space ∷ hexadecimal (getD trace i 0 ∷ []))
-take-more trace i some l =
-    let s : i + 1 ≡ suc i = omega arith in
-    ap (λ (k : ℕ). hexadecimal (take k trace)) s ∙ ap hexadecimal (take-suc trace i 0 l)
-    ∙ hexadecimal-more (take i trace) (getD trace i 0) (omega (arith, length-take-le i trace (omega arith)))
+-- Decimals with single spaces, with one more number at the end.
+pub spaced-more : (xs : List ℕ) (n : ℕ) → 0 < length xs → spaced (xs ++ (n ∷ [])) ≡ spaced xs ++ (space ∷ spaced (n ∷ []))
+unfolding spaced
+spaced-more [] n h = absurd (omega arith)
+spaced-more (x ∷ []) n h = refl
+spaced-more (x ∷ y ∷ xs) n h =
+    ap (λ (zs : List ℕ). decimal x ++ (space ∷ zs)) (spaced-more (y ∷ xs) n (omega arith)) ∙ sym (append-assoc (decimal x) (space ∷ spaced (y ∷ xs)) (space ∷ decimal n))
 
--- The bytes of a trace are put: the first, and one more behind a space.
+-- Items that are shown with single spaces are put: the first, and one more behind a space.
+module _ (shown : List ℕ → List ℕ) (more : (xs : List ℕ) (x : ℕ) → 0 < length xs → shown (xs ++ (x ∷ [])) ≡ shown xs ++ (space ∷ shown (x ∷ []))) where
+  module _ (items m u : List ℕ) (at p : ℕ) where
+    pub items-first : 0 < length items → Put m u at p (shown (getD items 0 0 ∷ [])) → Put m u at p (shown (take 1 items))
+    items-first l h = rw (take-suc items 0 0 l) h
+
+    pub items-next : (v : List ℕ) (q i : ℕ) → 0 < i → i < length items → Put m u at p (shown (take i items))
+        → Put (set u p space) v (p + 1) q (shown (getD items i 0 ∷ [])) → Put m v at q (shown (take (i + 1) items))
+    items-next v q i some l h k =
+        let s : i + 1 ≡ suc i = omega arith in
+        let e = ap (λ (j : ℕ). shown (take j items)) s ∙ ap shown (take-suc items i 0 l) ∙ more (take i items) (getD items i 0) (omega (arith, length-take-le i items (omega arith))) in
+        subst (λ (bytes : List ℕ). Put m v at q bytes) (sym e) (put-on h (put-on (put-one u p space) k))
+
+-- So are the bytes of a trace.
 module _ (trace m u : List ℕ) (at : ℕ) where
   pub trace-first : 0 < length trace → u ≡ write m at (hexadecimal (getD trace 0 0 ∷ [])) → Put m u at (at + 2) (hexadecimal (take 1 trace))
   unfolding hexadecimal
-  trace-first l e = rw (take-suc trace 0 0 l) (record { place = refl; written = e })
+  trace-first l e = items-first hexadecimal hexadecimal-more trace m u at (at + 2) l (record { place = refl; written = e })
 
   pub trace-next : (v : List ℕ) (p i : ℕ) → 0 < i → i < length trace → Put m u at p (hexadecimal (take i trace))
       → v ≡ write (set u p space) (p + 1) (hexadecimal (getD trace i 0 ∷ [])) → Put m v at (p + 3) (hexadecimal (take (i + 1) trace))
   trace-next v p i some l h e =
       let d = hexadecimal-length (getD trace i 0 ∷ []) (omega arith) in
-      rw (take-more trace i some l) (put-on h (put-on (put-one u p space) (record { place = omega (arith, d); written = e })))
+      items-next hexadecimal hexadecimal-more trace m u at p v (p + 3) i some l h (record { place = omega (arith, d); written = e })
+
+-- And the numbers of a line.
+module _ (numbers m u : List ℕ) (p : ℕ) where
+  pub number-first : 0 < length numbers → Put m u 0 p (decimal (getD numbers 0 0)) → Put m u 0 p (spaced (take 1 numbers))
+  unfolding spaced
+  number-first l h = items-first spaced spaced-more numbers m u 0 p l h
+
+  pub number-next : (v : List ℕ) (q i : ℕ) → 0 < i → i < length numbers → Put m u 0 p (spaced (take i numbers))
+      → Put (set u p space) v (p + 1) q (decimal (getD numbers i 0)) → Put m v 0 q (spaced (take (i + 1) numbers))
+  unfolding spaced
+  number-next v q i some l h k = items-next spaced spaced-more numbers m u 0 p v q i some l h k
+
+  -- The line is put once all of them are, and its end.
+  pub numbers-line : (i : ℕ) → length numbers ≤ i → Put m u 0 p (spaced (take i numbers)) → (p + 1 ≡ length (numbersLine numbers)) × (set u p lineFeed ≡ write m 0 (numbersLine numbers))
+  unfolding numbersLine
+  numbers-line i l h =
+      let k = put-on (subst (λ (ns : List ℕ). Put m u 0 p (spaced ns)) (take-all i numbers l) h) (put-one u p lineFeed) in
+      (omega (arith, k .place), k .written)
 
 -- Where the first line of a verdict "invalid" ends, behind its second number.
 pub line-end : (u v : List ℕ) (p l q : ℕ) → p ≤ 18 → l ≤ 64 → Put u v (p + 1) q (decimal l) → q ≤ 29
@@ -178,3 +212,9 @@ unfolding write
 lines-back out [] h = refl
 lines-back [] (y ∷ ys) h = absurd (omega arith)
 lines-back (x ∷ xs) (y ∷ ys) h = ap (take (suc (length ys))) (write-behind y xs 0 ys) ∙ ap (λ (zs : List ℕ). y ∷ zs) (lines-back xs ys (omega arith))
+
+-- Lines that were printed into an array of their room are its first bytes.
+pub lines-first : (n : ℕ) (out lines after : List ℕ) → n ≡ length lines → after ≡ write out 0 lines → n ≤ mostLines → length out ≡ mostLines → (take n after ≡ lines) × (n ≤ length after)
+lines-first n out lines after e w l k =
+    let fit : length lines ≤ length out = omega (arith, e, l, k) in
+    ((λ i. take (e i) (w i)) ∙ lines-back out lines fit, omega (arith, l, k, ap length w, write-length out 0 lines))

@@ -1,4 +1,4 @@
--- The method: what the parts of `print` write, for the contracts of inner functions. An auditor of the promises needs none of it.
+-- The method: what the parts of `print` and `print_figures` write, for the contracts of inner functions. An auditor of the promises needs none of it.
 use Prim.Native.Nat.{ℕ, _+_, _*_, _≤_}
 use mathlib.Core.Path.{_≡_}
 use mathlib.Core.List.{List, [], _++_}

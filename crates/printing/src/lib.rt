@@ -1,4 +1,4 @@
-// The lines that planverify prints.
+// The lines that planverify prints, and the line of the release figures.
 use routine::TRACE;
 use verifier::Verdict;
 use verifier::number;
@@ -7,7 +7,7 @@ ghost use mathlib.Core.Path.{_≡_};
 ghost use mathlib.Core.List.{[], _∷_, _++_};
 ghost use Prim.Native.Nat.{_+_, _*_, _≤_, _<_};
 ghost use lib.ListN.{length, take};
-ghost use Rattle.semantics.specs.Printing.{digit as digitOf, decimal, hexadecimal, endLine, printedFor, mostLines, printed};
+ghost use Rattle.semantics.specs.Printing.{digit as digitOf, decimal, hexadecimal, endLine, printedFor, mostLines, printed, numbersLine};
 ghost use Rattle.format.specs.Format.{gives, mostActs};
 ghost use Rattle.semantics.specs.Verdict.{invalid, longestTrace};
 ghost use Rattle.lists.specs.Lists.{write};
@@ -16,6 +16,9 @@ ghost use Rattle.printing.specs.Lines.{Put, behindWord, shownIn, Printab
 
 // The bytes that are lent for the lines.
 pub const LINES: usize = 512;
+
+// How many release figures there are.
+pub const FIGURES: usize = 6;
 
 // The budget of planverify.
 const BUDGET: u32 = 1000000;
@@ -43,7 +46,7 @@ fn put_word(out: &mut [u8; LINES], at: usize, word: &[u8]) -> usize
 }
 
 // Writes a number in decimal, and gives the place behind it.
-fn put_decimal(out: &mut [u8; LINES], at: usize, n: u32) -> usize
+fn put_decimal(out: &mut [u8; LINES], at: usize, n: u64) -> usize
     requires { ⌜ at + length (decimal n) ≤ mostLines ⌝ }
     ensures { λ r. ⌜ Put (now (out .entry)) (now (out .exit)) at r (decimal n) ⌝ }
 {
@@ -54,6 +57,15 @@ fn put_decimal(out: &mut [u8; LINES], at: usize, n: u32) -> usize
     let last = put_decimal(out, at, n / 10);
     out[last] = digit((n % 10) as u8);
     last + 1
+}
+
+// Writes a number in decimal where the longest has room, and gives the place behind it. (A number that is read from an array has
+// its bound here, as a parameter.)
+fn put_number(out: &mut [u8; LINES], at: usize, n: u64) -> usize
+    requires { ⌜ at + 20 ≤ mostLines ⌝ }
+    ensures { λ r. ⌜ Put (now (out .entry)) (now (out .exit)) at r (decimal n) × (r ≤ at + 20) ⌝ }
+{
+    put_decimal(out, at, n)
 }
 
 // Writes a byte in hexadecimal.
@@ -87,7 +99,7 @@ fn put_counted(out: &mut [u8; LINES], word: &[u8], n: u32) -> usize
 {
     let p = put_word(out, 0, word);
     out[p] = b' ';
-    put_decimal(out, p + 1, n)
+    put_decimal(out, p + 1, n as u64)
 }
 
 // Writes a line of a word and a number, and gives its length.
@@ -107,7 +119,7 @@ fn put_invalid(out: &mut [u8; LINES], c: u32, l: usize, trace: &[u8; TRACE]) -> 
 {
     let p = put_counted(out, b"invalid", c);
     out[p] = b' ';
-    let q = put_decimal(out, p + 1, l as u32);
+    let q = put_decimal(out, p + 1, l as u64);
     out[q] = b'\n';
     let e = put_trace(out, q + 1, trace, 1 + 2 * l);
     out[e] = b'\n';
@@ -135,4 +147,17 @@ pub fn print(bytes: &[u8], out: &mut [u8; LINES]) -> usize
     let mut trace = [0u8; TRACE];
     let verdict = verify(bytes, BUDGET, &mut trace);
     put_lines(out, verdict, &trace)
+}
+
+// Writes the line of the release figures from the first byte on, and gives its length.
+pub fn print_figures(figures: [u64; FIGURES], out: &mut [u8; LINES]) -> usize
+    ensures { λ r. ⌜ (r ≡ length (numbersLine figures)) × (now (out .exit) ≡ write (now (out .entry)) 0 (numbersLine figures)) × (r ≤ mostLines) ⌝ }
+{
+    let mut at = put_number(out, 0, figures[0]);
+    for i in 1..FIGURES {
+        out[at] = b' ';
+        at = put_number(out, at + 1, figures[i]);
+    }
+    out[at] = b'\n';
+    at + 1
 }

@@ -22,14 +22,17 @@ use Rattle.format.specs.Format.{reading}
 use Rattle.reader.specs.Answers.{numberFor}
 use Rattle.semantics.specs.Verdict.{admitted, verified}
 use Rattle.semantics.specs.Checker.{checked}
-use Rattle.semantics.specs.Printing.{mostLines, printed}
+use Rattle.semantics.specs.Printing.{mostLines, printed, numbersLine}
+use Rattle.semantics.specs.Figures.{figureNumbers}
 use Rattle.progression.specs.Machine.{stepped, settled, knownBy, Inside}
 use Rattle.verifier.specs.Answers.{cleared}
 use Rattle.runner.specs.declared.calls.Record.{Record}
 use Rattle.runner.specs.Records.{loaded, sheetIn, nextOn, reportOn, recordAfter}
 use Rattle.runner.proofs.HeldLaws.{kept-sheet}
-use Rattle.recovery.specs.Numbers.{memoryAfter, startWords, placeNumber, flagNumber, verdictNumbers, checkedNumber, lentRecord, lengthsOf, toldNumbers}
-use Rattle.recovery.specs.Arguments.{Tables, tablesAfter, bytesAt, recordPieces, lentTables, toRead, toPrepare, toStep, toSettle, toKnow, toVerify, toVerifyIn, toCheck, toCheckIn, toPrint, toLoad, toLoadIn, toNext, toNextIn, toReport, toReportIn}
+use Rattle.release.specs.Counting.{meantBy}
+use Rattle.release.specs.Feeding.{fed, isDone, ended, readBy, clearedAll}
+use Rattle.recovery.specs.Numbers.{memoryAfter, startWords, placeNumber, flagNumber, verdictNumbers, checkedNumber, lentRecord, lengthsOf, toldNumbers, lentRelease, releaseNumbers}
+use Rattle.recovery.specs.Arguments.{Tables, tablesAfter, bytesAt, recordPieces, lentTables, toRead, toPrepare, toStep, toSettle, toKnow, toVerify, toVerifyIn, toCheck, toCheckIn, toPrint, toLoad, toLoadIn, toNext, toNextIn, toReport, toReportIn, tablesAfterAll, toFeed, toEnd, toLine}
 use Rattle.recovery.proofs.recovery_read as read
 use Rattle.recovery.proofs.recovery_read.Reads as read-reads
 use Rattle.recovery.proofs.recovery_read.Met as read-met
@@ -94,6 +97,18 @@ use Rattle.recovery.proofs.recovery_report_in as report-in
 use Rattle.recovery.proofs.recovery_report_in.Reads as report-in-reads
 use Rattle.recovery.proofs.recovery_report_in.Met as report-in-met
 use Rattle.recovery.proofs.recovery_report_in.Symbol as report-in-symbol
+use Rattle.recovery.proofs.recovery_figures_feed as feed
+use Rattle.recovery.proofs.recovery_figures_feed.Reads as feed-reads
+use Rattle.recovery.proofs.recovery_figures_feed.Met as feed-met
+use Rattle.recovery.proofs.recovery_figures_feed.Symbol as feed-symbol
+use Rattle.recovery.proofs.recovery_figures_end as end
+use Rattle.recovery.proofs.recovery_figures_end.Reads as end-reads
+use Rattle.recovery.proofs.recovery_figures_end.Met as end-met
+use Rattle.recovery.proofs.recovery_figures_end.Symbol as end-symbol
+use Rattle.recovery.proofs.recovery_figures_print as line
+use Rattle.recovery.proofs.recovery_figures_print.Reads as line-reads
+use Rattle.recovery.proofs.recovery_figures_print.Met as line-met
+use Rattle.recovery.proofs.recovery_figures_print.Symbol as line-symbol
 
 head-is : {v u : Val} → _≡_ {A = List Val} (v ∷ []) (u ∷ []) → v ≡ u
 head-is e = cc
@@ -313,3 +328,49 @@ module _ {M : Type 1} (𝓤 : URA M) (H : Heap 𝓤) (𝓜 : Model 𝓤 H) (𝓖
       (λ q.
       let f = q .7 in
       so 𝓤 H 𝓜 𝓖 report-in-symbol.routine args σ F (q .1) _ _ _ (q .2) (head-is (q .6 .0) ∙ ap (vint w8) (f .0 (fit .1 .1 .1 .1 .0, fit .1 .1 .1 .1 .1 .0, fit .1 .1 .1 .1 .1 .1 .0) .0)) (λ i. (recordPieces reads writes (p 0) (p 1) (p 2) (kept-sheet r (fit .0) reply i) (f .0 (fit .1 .1 .1 .1 .0, fit .1 .1 .1 .1 .1 .0, fit .1 .1 .1 .1 .1 .1 .0) .1 i) (f .0 (fit .1 .1 .1 .1 .0, fit .1 .1 .1 .1 .1 .0, fit .1 .1 .1 .1 .1 .1 .0) .2 i) ++ (number w8 reply ∷ [])) ++ lentTables (p 3) (p 4) (p 5) (record { heads = f .1 .0 i; nodes = f .1 .1 i; sets = f .1 .2 i })) (q .5, q .8 .0, q .8 .1, q .8 .2))
+
+  pub feed-leaves : (piece numbers begun : List ℕ) (t : Tables) (memo : List ℕ)
+      → Leaves 𝓤 H 𝓜 𝓖 feed-symbol.routine (toFeed p piece numbers begun t memo) (vint w8 (flagNumber (isDone (fed (lentRelease numbers begun) piece)))) (toFeed p piece (releaseNumbers (fed (lentRelease numbers begun) piece)) (fed (lentRelease numbers begun) piece .begun .bytes) (tablesAfterAll (readBy (lentRelease numbers begun) piece) t) (clearedAll (readBy (lentRelease numbers begun) piece) memo))
+  unfolding valuesOf valueOf AllFit Fits
+  feed-leaves piece numbers begun t memo fit σ F s =
+      let args = toFeed p piece numbers begun t memo in
+      ∥∥₁-map
+      (said 𝓤 H 𝓜 𝓖 feed.signature feed-symbol.routine (feed.spec 𝓤 H (𝓖 .A) (𝓜 .mem) (𝓡 .run)) (feed-met.met 𝓤 H 𝓜 𝓖 𝓡) (feed.ended .kept) args (bound args) (λ ns. tt)
+      (λ ns. feed-reads.Learnt (bound args ns .0) (bound args ns .3)) (λ ns t. id⊢ 𝓤 _) (λ ns. refl) (λ ns. id⊢ 𝓤 _) (λ ns ws. ws) (λ ns ws. id⊢ 𝓤 _) fit σ F s)
+      (λ q.
+      let f = q .7 in
+      let g = f .0 (fit .1 .1 .1 .0, fit .1 .1 .1 .1 .0, fit .1 .1 .1 .1 .1 .0) in
+      so 𝓤 H 𝓜 𝓖 feed-symbol.routine args σ F (q .1) _ _ _ (q .2) (head-is (q .6 .0) ∙ ap (vint w8) (g .0)) (λ i. toFeed p piece (g .1 i) (g .2 i) (record { heads = f .2 .0 i; nodes = f .2 .1 i; sets = f .2 .2 i }) (f .1 i)) (q .5, q .8 .0, q .8 .1, q .8 .2))
+
+  pub end-leaves : (numbers begun figures : List ℕ)
+      → Leaves 𝓤 H 𝓜 𝓖 end-symbol.routine (toEnd p numbers begun figures) (vunit) (toEnd p numbers begun (figureNumbers (meantBy (ended (lentRelease numbers begun)))))
+  unfolding valuesOf valueOf
+  end-leaves numbers begun figures fit σ F s =
+      let args = toEnd p numbers begun figures in
+      ∥∥₁-map
+      (said 𝓤 H 𝓜 𝓖 end.signature end-symbol.routine (end.spec 𝓤 H (𝓖 .A) (𝓜 .mem) (𝓡 .run)) (end-met.met 𝓤 H 𝓜 𝓖 𝓡) (end.ended .kept) args (bound args) (λ ns. tt)
+      (λ ns. end-reads.Learnt (bound args ns .0) (bound args ns .3)) (λ ns t. id⊢ 𝓤 _) (λ ns. refl) (λ ns. id⊢ 𝓤 _) (λ ns ws. ws) (λ ns ws. id⊢ 𝓤 _) fit σ F s)
+      (λ q.
+      let f = q .7 in
+      so 𝓤 H 𝓜 𝓖 end-symbol.routine args σ F (q .1) _ _ _ (q .2) (head-is (q .6)) (λ i. toEnd p numbers begun (f i)) (q .5, q .8 .0, q .8 .1, q .8 .2))
+
+  pub line-leaves : (figures out : List ℕ)
+      → Leaves 𝓤 H 𝓜 𝓖 line-symbol.routine (toLine p figures out) (vint w64 (length (numbersLine figures))) (toLine p figures (write out 0 (numbersLine figures)))
+  unfolding valuesOf valueOf
+  line-leaves figures out fit σ F s =
+      let args = toLine p figures out in
+      ∥∥₁-map
+      (said 𝓤 H 𝓜 𝓖 line.signature line-symbol.routine (line.spec 𝓤 H (𝓖 .A) (𝓜 .mem) (𝓡 .run)) (line-met.met 𝓤 H 𝓜 𝓖 𝓡) (line.ended .kept) args (bound args) (λ ns. tt)
+      (λ ns. line-reads.Learnt (bound args ns .0) (bound args ns .3)) (λ ns t. id⊢ 𝓤 _) (λ ns. refl) (λ ns. id⊢ 𝓤 _) (λ ns ws. ws) (λ ns ws. id⊢ 𝓤 _) fit σ F s)
+      (λ q.
+      let f = q .7 in
+      so 𝓤 H 𝓜 𝓖 line-symbol.routine args σ F (q .1) _ _ _ (q .2) (head-is (q .6 .0) ∙ ap (vint w64) (f .0)) (λ i. toLine p figures (f .1 i)) (q .5, q .8 .0, q .8 .1, q .8 .2))
+
+  -- And the line has room.
+  pub line-within : (figures out : List ℕ) → AllFit (toLine p figures out) → (σ : Memory) (F : SProp 𝓤) → Satisfies 𝓤 H 𝓜 σ (sep 𝓤 (Owned 𝓤 H 𝓜 (toLine p figures out)) F) → ∥ (length (numbersLine figures) ≤ mostLines) ∥₁
+  unfolding valuesOf valueOf
+  line-within figures out fit σ F s =
+      let args = toLine p figures out in
+      ∥∥₁-map
+      (said 𝓤 H 𝓜 𝓖 line.signature line-symbol.routine (line.spec 𝓤 H (𝓖 .A) (𝓜 .mem) (𝓡 .run)) (line-met.met 𝓤 H 𝓜 𝓖 𝓡) (line.ended .kept) args (bound args) (λ ns. tt)
+      (λ ns. line-reads.Learnt (bound args ns .0) (bound args ns .3)) (λ ns t. id⊢ 𝓤 _) (λ ns. refl) (λ ns. id⊢ 𝓤 _) (λ ns ws. ws) (λ ns ws. id⊢ 𝓤 _) fit σ F s) (λ q. subst (λ (k : ℕ). k ≤ mostLines) (q .7 .0) (q .7 .2))

@@ -2,7 +2,7 @@
 use Prim.Native.Nat.{ℕ}
 use mathlib.Core.Path.{_≡_, refl, sym, ap, subst, _∙_}
 use mathlib.Core.List.{List}
-use mathlib.Core.Bool.{Bool}
+use mathlib.Core.Bool.{Bool, true, false}
 use native.Mathlib.Omega.{arith}
 use Rattle.states.specs.declared.States.{States}
 use Rattle.format.specs.Syntax.{Sheet}
@@ -19,7 +19,9 @@ use Rattle.verifier.proofs.AnswerLaws.{parts}
 use Rattle.semantics.specs.Replies.{Told}
 use Rattle.runner.specs.declared.calls.Record.{Record}
 use Rattle.runner.specs.Records.{sheetIn, nextOn, reportOn, recordAfter}
-use Rattle.recovery.specs.Numbers.{memoryAfter, startWords, placeNumber, verdictNumbers, lengthsOf, toldNumbers}
+use Rattle.release.specs.declared.feeding.Release.{Release}
+use Rattle.release.specs.Feeding.{fed, isDone, readBy, clearedAll, TablesAfterAll}
+use Rattle.recovery.specs.Numbers.{memoryAfter, startWords, placeNumber, flagNumber, verdictNumbers, lengthsOf, toldNumbers, releaseNumbers}
 
 -- An answer has the same number without its sheet.
 number-without : {A : Type 0} (a : Answer A) → numberFor (withoutValue a) ≡ numberFor a
@@ -105,3 +107,27 @@ pub report-parts : (r lent kept : Record) (reply : ℕ) → r ≡ lent → kept 
 report-parts r lent kept reply l e =
     let after = e ∙ ap (λ (x : Record). recordAfter x reply) l in
     (ap (λ (x : Record). x .replies) after, ap lengthsOf after)
+
+-- The state of a stream that was lent, fed with a piece.
+pub done-flag : (b : Bool) → b ≡ true → 1 ≡ flagNumber b
+unfolding flagNumber
+done-flag b e = ap flagNumber (sym e)
+
+pub more-flag : (b : Bool) → b ≡ false → 0 ≡ flagNumber b
+unfolding flagNumber
+more-flag b e = ap flagNumber (sym e)
+
+pub fed-lent : (state lent after : Release) (piece numbers begun : List ℕ) (r : ℕ) (b : Bool) → state ≡ lent → after ≡ fed state piece → numbers ≡ releaseNumbers after
+    → begun ≡ after .begun .bytes → b ≡ isDone after → r ≡ flagNumber b
+    → (r ≡ flagNumber (isDone (fed lent piece))) × (numbers ≡ releaseNumbers (fed lent piece)) × (begun ≡ fed lent piece .begun .bytes)
+fed-lent state lent after piece numbers begun r b l a n k d f =
+    let same : after ≡ fed lent piece = a ∙ ap (λ (s : Release). fed s piece) l in
+    (f ∙ ap flagNumber (d ∙ ap isDone same), n ∙ ap releaseNumbers same, k ∙ ap (λ (s : Release). s .begun .bytes) same)
+
+pub memo-fed : (state lent : Release) (piece : List ℕ) → state ≡ lent → (memo memo′ : List ℕ) → memo′ ≡ clearedAll (readBy state piece) memo → memo′ ≡ clearedAll (readBy lent piece) memo
+memo-fed state lent piece l memo memo′ e = e ∙ ap (λ (s : Release). clearedAll (readBy s piece) memo) l
+
+pub tables-fed : (state lent : Release) (piece : List ℕ) → state ≡ lent → (heads nodes sets heads′ nodes′ sets′ : List ℕ)
+    → TablesAfterAll (readBy state piece) heads nodes sets heads′ nodes′ sets′ → TablesAfterAll (readBy lent piece) heads nodes sets heads′ nodes′ sets′
+tables-fed state lent piece l heads nodes sets heads′ nodes′ sets′ t =
+    subst (λ (s : Release). TablesAfterAll (readBy s piece) heads nodes sets heads′ nodes′ sets′) l t

@@ -1,6 +1,6 @@
 -- The arguments of the functions that C links, in their order: numbers, and memory that the caller lends. The first piece of memory lies
 -- at place 0, the next at place 1, and so on.
-use Prim.Native.Nat.{ℕ, _*_}
+use Prim.Native.Nat.{ℕ, _+_, _*_}
 use mathlib.Core.List.{List, [], _∷_, _++_}
 use mir.Syntax.{w8, w16, w32, w64}
 use Rattle.machine.specs.Calls.{Place, slice, array, Lent, reads, writes, Argument, number, memory}
@@ -11,10 +11,12 @@ use Rattle.routine.specs.Memory.{headMost, nodeMost, setMost}
 use Rattle.routine.specs.Tables.{prepared, sheetHeads, nodeCells, setWords}
 use Rattle.verifier.specs.Answers.{slotMost, slotSize}
 use Rattle.runner.specs.declared.calls.Record.{Record}
+use Rattle.release.specs.Framing.{mostBegun}
+use Rattle.release.specs.Feeding.{preparedAll}
 use Rattle.recovery.specs.Numbers.{lengthsOf}
 
--- How many numbers there are in the memories of fixed length: a set of states, the tables, the memo, a verdict, a record's lengths and what
--- "Next" tells.
+-- How many numbers there are in the memories of fixed length: a set of states, the tables, the memo, a verdict, a record's lengths, what
+-- "Next" tells, six figures, and the numbers of a stream's state.
 abbrev pub setWidth : ℕ
 setWidth = 4
 
@@ -39,6 +41,12 @@ lengthsWidth = 2
 abbrev pub toldWidth : ℕ
 toldWidth = 2
 
+abbrev pub figuresWidth : ℕ
+figuresWidth = 6
+
+abbrev pub stateWidth : ℕ
+stateWidth = figuresWidth + 2
+
 -- The three tables, and what they hold after a call that prepares a sheet; a refusal leaves them as they were.
 pub record Tables : Type 0 where
   pub heads : List ℕ
@@ -51,6 +59,15 @@ tablesAfter answer t =
       heads = prepared sheetHeads answer (t .heads);
       nodes = prepared nodeCells answer (t .nodes);
       sets = prepared setWords answer (t .sets);
+    }
+
+-- And after one that prepares sheet after sheet.
+abbrev pub tablesAfterAll : List (Answer Sheet) → Tables → Tables
+tablesAfterAll sheets t =
+    record {
+      heads = preparedAll sheetHeads sheets (t .heads);
+      nodes = preparedAll nodeCells sheets (t .nodes);
+      sets = preparedAll setWords sheets (t .sets);
     }
 
 abbrev pub headsAt : Lent → Place → Tables → Argument
@@ -85,6 +102,13 @@ recordAt l m i j k r = recordPieces l m i j k (r .sheet) (r .replies) (lengthsOf
 
 abbrev pub toldLent : Place → List ℕ → Argument
 toldLent i told = memory (array toldWidth) writes w64 i told
+
+-- The state of a stream lies in two: its numbers, and the bytes that are begun.
+abbrev pub stateAt : Lent → (i j : Place) → (numbers begun : List ℕ) → List Argument
+stateAt l i j numbers begun = memory (array stateWidth) l w64 i numbers ∷ memory (array mostBegun) l w8 j begun ∷ []
+
+abbrev pub figuresLent : Lent → Place → List ℕ → Argument
+figuresLent l i figures = memory (array figuresWidth) l w64 i figures
 
 module _ (p : ℕ → Place) where
   abbrev pub toRead : (sheet : List ℕ) → List Argument
@@ -139,3 +163,13 @@ module _ (p : ℕ → Place) where
 
   abbrev pub toReportIn : Record → (reply : ℕ) → Tables → List Argument
   toReportIn r reply t = toReport r reply ++ lentTables (p 3) (p 4) (p 5) t
+
+  abbrev pub toFeed : (piece numbers begun : List ℕ) → Tables → (memo : List ℕ) → List Argument
+  toFeed piece numbers begun t memo =
+      bytesAt (p 0) piece ∷ (stateAt writes (p 1) (p 2) numbers begun ++ (lentTables (p 3) (p 4) (p 5) t ++ (memoAt (p 6) memo ∷ [])))
+
+  abbrev pub toEnd : (numbers begun figures : List ℕ) → List Argument
+  toEnd numbers begun figures = stateAt reads (p 0) (p 1) numbers begun ++ (figuresLent writes (p 2) figures ∷ [])
+
+  abbrev pub toLine : (figures out : List ℕ) → List Argument
+  toLine figures out = figuresLent reads (p 0) figures ∷ memory (array mostLines) writes w8 (p 1) out ∷ []

@@ -12,6 +12,7 @@ use Rattle.routine.specs.Tables.{sheetStart}
 use Rattle.progression.specs.declared.place.Place.{Place}
 use Rattle.semantics.specs.Replies.{Told, to-do, at-end}
 use Rattle.runner.specs.declared.calls.Record.{Record}
+use Rattle.release.specs.declared.feeding.Release.{Release}
 
 -- A memory after a call: the numbers of what it gives; a refusal leaves it as it was.
 unfoldable pub memoryAfter : {A : Type 0} (numbers : A → List ℕ) → Answer A → (old : List ℕ) → List ℕ
@@ -59,6 +60,26 @@ unfoldable pub toldNumbers : Told → List ℕ
 toldNumbers (to-do action) = 0 ∷ action ∷ []
 toldNumbers (at-end true) = 1 ∷ 1 ∷ []
 toldNumbers (at-end false) = 1 ∷ 0 ∷ []
+
+-- The state of a stream that lent memory holds: six figures, the lengths that are read with their sheets and the number of bytes that are begun; and the first of these bytes.
+unfoldable pub lentRelease : (numbers begun : List ℕ) → Release
+lentRelease numbers begun = record {
+  figures = record {
+    valid = getD numbers 0 0;
+    invalid = getD numbers 1 0;
+    stopped = getD numbers 2 0;
+    refused = getD numbers 3 0;
+    sum = getD numbers 4 0;
+    greatest = getD numbers 5 0;
+  };
+  lengths = getD numbers 6 0;
+  begun = record { held = getD numbers 7 0; bytes = begun };
+}
+
+-- The numbers of a state.
+unfoldable pub releaseNumbers : Release → List ℕ
+releaseNumbers s =
+    s .figures .valid ∷ s .figures .invalid ∷ s .figures .stopped ∷ s .figures .refused ∷ s .figures .sum ∷ s .figures .greatest ∷ s .lengths ∷ s .begun .held ∷ []
 
 -- How a caller reads the numbers: only these say this, and they say nothing else (ReadLaws). 0, or the number of a refusal;
 unfoldable pub DoneRead : (k : ℕ) → Answer (Unit {0}) → Type 0

@@ -5,11 +5,15 @@ use checker::check;
 use checker::check_in;
 use printing::LINES;
 use printing::print;
+use printing::print_figures;
 use progression::Place;
 use progression::known;
 use progression::settle;
 use progression::step;
 use reader::Acceptance;
+use release::Begun;
+use release::Figures;
+use release::Release;
 use routine::HEAD_CELLS;
 use routine::NODE_CELLS;
 use routine::Prepared;
@@ -31,7 +35,7 @@ ghost use Rattle.format.specs.Format.{reading};
 ghost use Rattle.reader.specs.Answers.{answerOf, numberFor};
 ghost use Rattle.semantics.specs.Verdict.{admitted, verified};
 ghost use Rattle.semantics.specs.Checker.{checked};
-ghost use Rattle.semantics.specs.Printing.{mostLines, printed};
+ghost use Rattle.semantics.specs.Printing.{mostLines, printed, numbersLine};
 ghost use Rattle.states.specs.Sets.{words, ofWords};
 ghost use Rattle.lists.specs.Lists.{write};
 ghost use Rattle.routine.specs.Memory.{Sized};
@@ -41,7 +45,10 @@ ghost use Rattle.verifier.specs.Answers.{answerOf as verdictOf, cleared};
 ghost use Rattle.checker.specs.Answers.{answerOf as checkedOf};
 ghost use Rattle.runner.specs.Records.{loaded, sheetIn, nextOn, reportOn, recordAfter};
 ghost use Rattle.runner.specs.Answers.{toldOf, reportedOf};
-ghost use Rattle.recovery.specs.Numbers.{memoryAfter, startWords, placeNumber, flagNumber, verdictNumbers, checkedNumber, lentRecord, lengthsOf, toldNumbers};
+ghost use Rattle.semantics.specs.Figures.{figureNumbers};
+ghost use Rattle.release.specs.Counting.{meantBy};
+ghost use Rattle.release.specs.Feeding.{fed, isDone, ended, readBy, clearedAll, TablesAfterAll};
+ghost use Rattle.recovery.specs.Numbers.{memoryAfter, startWords, placeNumber, flagNumber, verdictNumbers, checkedNumber, lentRecord, lengthsOf, toldNumbers, lentRelease, releaseNumbers};
 
 // The reader's answer as a number.
 fn answer_number(answer: Acceptance) -> u8
@@ -400,4 +407,104 @@ pub extern "C" fn recovery_report_in(
     put_replies(kept, replies, lengths);
     let answer = after.answer;
     report_number(answer)
+}
+
+// The numbers of a stream's state: its figures, the lengths that are read with their sheets, and the bytes that are begun.
+const STATE: usize = Figures::NUMBERS + 2;
+
+// A number of bytes. (What is read from lent memory has its bound here, as a parameter.)
+fn byte_count(n: u64) -> usize
+    ensures { λ r. ⌜ r ≡ n ⌝ }
+{
+    n as usize
+}
+
+// The state of a stream that lent memory holds.
+fn lent_release(numbers: &[u64; STATE], begun: &[u8; Begun::BYTES]) -> Release
+    ensures { λ r. ⌜ r ≡ lentRelease (now (numbers .entry)) (now (begun .entry)) ⌝ }
+{
+    let figures = Figures {
+        valid: numbers[0],
+        invalid: numbers[1],
+        stopped: numbers[2],
+        refused: numbers[3],
+        sum: numbers[4],
+        greatest: numbers[5],
+    };
+    let held = byte_count(numbers[7]);
+    let kept = Begun {
+        held: held,
+        bytes: *begun,
+    };
+    Release {
+        figures: figures,
+        lengths: numbers[6],
+        begun: kept,
+    }
+}
+
+// Writes the state of a stream.
+fn put_release(state: Release, numbers: &mut [u64; STATE], begun: &mut [u8; Begun::BYTES])
+    ensures { λ r. ⌜ (now (numbers .exit) ≡ releaseNumbers state) × (now (begun .exit) ≡ state .begun .bytes) ⌝ }
+{
+    let figures = state.figures;
+    let kept = state.begun;
+    let bytes = kept.bytes;
+    *numbers = [
+        figures.valid,
+        figures.invalid,
+        figures.stopped,
+        figures.refused,
+        figures.sum,
+        figures.greatest,
+        state.lengths,
+        kept.held as u64,
+    ];
+    *begun = bytes;
+}
+
+// Feeds a piece of a stream of sheets, each behind a 16-bit length, most significant byte first, to the state that the
+// first two memories hold; zeros are the state of no bytes. Gives 1 if 65,535 lengths are read with their sheets, so that
+// nothing more is looked at, else 0. The tables and the memo are as the last accepted sheet leaves them.
+#[no_mangle]
+pub extern "C" fn recovery_figures_feed(
+    piece: &[u8],
+    numbers: &mut [u64; STATE],
+    begun: &mut [u8; Begun::BYTES],
+    heads: &mut [u16; HEAD_CELLS],
+    nodes: &mut [u16; NODE_CELLS],
+    sets: &mut [u64; SET_WORDS],
+    memo: &mut [u64; MEMO_WORDS],
+) -> u8
+    ensures { λ r. ⌜ (Sized (now (heads .entry)) (now (nodes .entry)) (now (sets .entry)) → (r ≡ flagNumber (isDone (fed (lentRelease (now (numbers .entry)) (now (begun .entry))) (now (piece .entry))))) × (now (numbers .exit) ≡ releaseNumbers (fed (lentRelease (now (numbers .entry)) (now (begun .entry))) (now (piece .entry)))) × (now (begun .exit) ≡ fed (lentRelease (now (numbers .entry)) (now (begun .entry))) (now (piece .entry)) .begun .bytes)) × (now (memo .exit) ≡ clearedAll (readBy (lentRelease (now (numbers .entry)) (now (begun .entry))) (now (piece .entry))) (now (memo .entry))) × TablesAfterAll (readBy (lentRelease (now (numbers .entry)) (now (begun .entry))) (now (piece .entry))) (now (heads .entry)) (now (nodes .entry)) (now (sets .entry)) (now (heads .exit)) (now (nodes .exit)) (now (sets .exit)) ⌝ }
+{
+    let state = lent_release(numbers, begun);
+    let after = state.feed(piece, heads, nodes, sets, memo);
+    put_release(after, numbers, begun);
+    if after.is_done() { 1 } else { 0 }
+}
+
+// Writes the six figures of a stream that ends where its state stands: what is begun then is cut, and refused.
+#[no_mangle]
+pub extern "C" fn recovery_figures_end(
+    numbers: &[u64; STATE],
+    begun: &[u8; Begun::BYTES],
+    figures: &mut [u64; Figures::NUMBERS],
+)
+    ensures { λ r. ⌜ now (figures .exit) ≡ figureNumbers (meantBy (ended (lentRelease (now (numbers .entry)) (now (begun .entry))))) ⌝ }
+{
+    let state = lent_release(numbers, begun);
+    let found = state.end();
+    *figures = found.numbers();
+}
+
+// Writes the line of six figures, whatever they are, from the first byte on, and gives its length.
+#[no_mangle]
+pub extern "C" fn recovery_figures_print(
+    figures: &[u64; Figures::NUMBERS],
+    out: &mut [u8; LINES],
+) -> usize
+    ensures { λ r. ⌜ (r ≡ length (numbersLine (now (figures .entry)))) × (now (out .exit) ≡ write (now (out .entry)) 0 (numbersLine (now (figures .entry)))) × (r ≤ mostLines) ⌝ }
+{
+    print_figures(*figures, out)
 }

@@ -7,3 +7,4 @@ pub mod AcceptedLaws
 pub mod MemoryLaws
 pub mod CheckerLaws
 pub mod PrintingLaws
+pub mod FigureLaws

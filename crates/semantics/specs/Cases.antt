@@ -12,6 +12,7 @@ use Rattle.semantics.specs.Verdict.{Verdict, valid, invalid, stopped, ou
 use Rattle.semantics.specs.Replies.{to-do, at-end, told, reported}
 use Rattle.semantics.specs.Checker.{checked}
 use Rattle.semantics.specs.Printing.{digit, printed}
+use Rattle.semantics.specs.Figures.{framed, figuresLine}
 
 -- A row: the bytes of a sheet, the budget, the verifier's answer, and the trace that it shows.
 pub record Row : Type 0 where
@@ -196,3 +197,10 @@ pub outside-checked : (checked traced (0x00 ∷ 0x00 ∷ 0x01 ∷ []) ≡ gives 
     × (checked traced1 (0x00 ∷ 0x00 ∷ 0x01 ∷ []) ≡ gives true) × (checked traced1 (0x00 ∷ 0x00 ∷ 0x03 ∷ []) ≡ gives true) × (checked traced1 (0x03 ∷ 0x00 ∷ 0x01 ∷ []) ≡ gives true)
 unfolding checked
 outside-checked = (refl, refl, refl, refl, refl, refl)
+
+-- Cases 9, 1, 2, 10, 11 and 6 one behind the other, and a length that is cut: two valid, three invalid, two refused; 7 + 2 + 2 + 3 + 0 histories, and the longest
+-- failing one has two actions.
+pub streamed : figuresLine (framed (sheet9 ∷ sheet1 ∷ sheet2 ∷ sheet10 ∷ sheet11 ∷ (0x41 ∷ []) ∷ []) ++ (0x00 ∷ []))
+    ≡ map digit (2 ∷ []) ++ 0x20 ∷ map digit (3 ∷ []) ++ 0x20 ∷ map digit (0 ∷ []) ++ 0x20 ∷ map digit (2 ∷ []) ++ 0x20 ∷ map digit (1 ∷ 4 ∷ []) ++ 0x20 ∷ map digit (2 ∷ []) ++ 0x0A ∷ []
+unfolding figuresLine framed
+streamed = refl

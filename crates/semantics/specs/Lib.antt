@@ -4,5 +4,6 @@ pub mod Verdict
 pub mod Checker
 pub mod Replies
 pub mod Printing
+pub mod Figures
 pub mod Progression
 pub mod Cases

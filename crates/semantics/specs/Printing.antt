@@ -66,6 +66,17 @@ printedFor (gives (valid c)) shown = validWord ++ behindSpace c ++ endLine
 printedFor (gives (stopped b)) shown = stoppedWord ++ behindSpace b ++ endLine
 printedFor (gives (invalid c l)) shown = invalidWord ++ behindSpace c ++ behindSpace l ++ endLine ++ hexadecimal shown ++ endLine
 
+-- A line of decimal numbers "with single spaces" (document 02).
+unfoldable pub spaced : List ℕ → List ℕ
+unfolding decimal
+spaced [] = []
+spaced (n ∷ []) = decimal n
+spaced (n ∷ m ∷ rest) = decimal n ++ (space ∷ spaced (m ∷ rest))
+
+unfoldable pub numbersLine : List ℕ → List ℕ
+unfolding spaced
+numbersLine numbers = spaced numbers ++ endLine
+
 -- The bytes that are lent for the lines, in which those of every sheet have room.
 abbrev pub mostLines : ℕ
 mostLines = 512

@@ -23,6 +23,13 @@ pub const LINES: usize = 512;
 pub const SHEET: usize = 1024;
 pub const REPLIES: usize = 64;
 
+/// The numbers of a stream's state: the six figures of its whole sheets, how many these
+/// are, and how many bytes are begun behind them.
+pub const STREAM_NUMBERS: usize = 8;
+/// The bytes that are kept of what is begun: a length and a sheet.
+pub const BEGUN: usize = 2 + SHEET;
+pub const FIGURES: usize = 6;
+
 /// A set of states as words: state s has weight 2^(s mod 64) in word s div 64.
 pub type Words = [u64; 4];
 
@@ -91,6 +98,25 @@ extern "C" {
     ) -> u8;
 
     fn recovery_print(bytes: *const u8, length: usize, out: &mut [u8; LINES]) -> usize;
+
+    fn recovery_figures_feed(
+        piece: *const u8,
+        piece_length: usize,
+        numbers: &mut [u64; STREAM_NUMBERS],
+        begun: &mut [u8; BEGUN],
+        heads: &mut [u16; HEAD_CELLS],
+        nodes: &mut [u16; NODE_CELLS],
+        sets: &mut [u64; SET_WORDS],
+        memo: &mut [u64; MEMO_WORDS],
+    ) -> u8;
+
+    fn recovery_figures_end(
+        numbers: &[u64; STREAM_NUMBERS],
+        begun: &[u8; BEGUN],
+        figures: &mut [u64; FIGURES],
+    );
+
+    fn recovery_figures_print(figures: &[u64; FIGURES], out: &mut [u8; LINES]) -> usize;
 
     fn recovery_load(
         bytes: *const u8,
@@ -261,6 +287,23 @@ pub struct Record {
     pub lengths: [usize; 2],
 }
 
+/// The memory that is lent for the state of a stream that is fed in pieces.
+#[derive(Clone, Debug, PartialEq, Eq)]
+pub struct Stream {
+    pub numbers: [u64; STREAM_NUMBERS],
+    pub begun: [u8; BEGUN],
+}
+
+impl Stream {
+    /// Of no bytes.
+    pub fn empty() -> Stream {
+        Stream {
+            numbers: [0; STREAM_NUMBERS],
+            begun: [0; BEGUN],
+        }
+    }
+}
+
 impl Tables {
     /// Memory with these numbers, which are called for one after the other.
     pub fn filled(mut number: impl FnMut() -> u64) -> Tables {
@@ -331,10 +374,14 @@ pub fn settle(tables: &Tables, set: &Words, at: usize) -> Place {
 /// Whether every state of the set is in set k of the tables.
 pub fn known(tables: &Tables, set: &Words, k: usize) -> bool {
     // SAFETY: as above.
-    match unsafe { recovery_known(&tables.sets, set, k) } {
+    yes_or_no(unsafe { recovery_known(&tables.sets, set, k) })
+}
+
+fn yes_or_no(number: u8) -> bool {
+    match number {
         0 => false,
         1 => true,
-        number => panic!("neither yes nor no: {number}"),
+        _ => panic!("neither yes nor no: {number}"),
     }
 }
 
@@ -473,6 +520,42 @@ fn checked(number: u8) -> Result<bool, u8> {
 pub fn print(bytes: &[u8], out: &mut [u8; LINES]) -> usize {
     // SAFETY: as above.
     unsafe { recovery_print(bytes.as_ptr(), bytes.len(), out) }
+}
+
+/// Feeds a piece to a stream's state, in lent tables and a lent memo, whatever they hold.
+/// Tells whether all is read that is looked at: 65,535 lengths with their sheets.
+pub fn figures_feed(
+    piece: &[u8],
+    stream: &mut Stream,
+    tables: &mut Tables,
+    memo: &mut [u64; MEMO_WORDS],
+) -> bool {
+    // SAFETY: as above.
+    let number = unsafe {
+        recovery_figures_feed(
+            piece.as_ptr(),
+            piece.len(),
+            &mut stream.numbers,
+            &mut stream.begun,
+            &mut tables.heads,
+            &mut tables.nodes,
+            &mut tables.sets,
+            memo,
+        )
+    };
+    yes_or_no(number)
+}
+
+/// Writes the figures of a stream that ends in this state.
+pub fn figures_end(stream: &Stream, figures: &mut [u64; FIGURES]) {
+    // SAFETY: as above.
+    unsafe { recovery_figures_end(&stream.numbers, &stream.begun, figures) }
+}
+
+/// Writes what `planfigures` prints for these figures, and gives its length.
+pub fn figures_print(figures: &[u64; FIGURES], out: &mut [u8; LINES]) -> usize {
+    // SAFETY: as above.
+    unsafe { recovery_figures_print(figures, out) }
 }
 
 /// Writes the record of a sheet with no replies and gives 0; for a refused sheet

@@ -4,11 +4,10 @@
 
 mod common;
 
-use common::{sheets, Case, BUDGET, FEW};
-use linked::plain::{self, SLOT_WORDS};
+use common::{misleading_memo, sheets, Case, BUDGET, FEW};
 use linked::{
-    check, check_in, load_in, next_in, prepare, report_in, settle, verify_words, verify_words_in,
-    Place, Record, Tables, Verdict, Words, MEMO_WORDS, REPLIES, SHEET,
+    check, check_in, load_in, next_in, prepare, report_in, verify_words, verify_words_in, Record,
+    Tables, Verdict, MEMO_WORDS, REPLIES, SHEET,
 };
 use reference::check::Checked;
 use reference::random::Random;
@@ -17,23 +16,6 @@ use reference::verify::Answer;
 
 /// Memory for a trace, of too few bytes, just enough and more.
 const LENGTHS: [usize; 3] = [MAX_TRACE - 1, MAX_TRACE, 200];
-
-/// More histories than any of the sheets has, as far as they are searched.
-const WRONG: u64 = 77_777_777;
-
-/// A memo full of any numbers; for an accepted sheet, in the slot of its first
-/// action, with what would let every search pass.
-fn memo(random: &mut Random, tables: &Tables, start: &Words) -> ([u64; MEMO_WORDS], bool) {
-    let mut memo = [0; MEMO_WORDS].map(|_: u64| random.bits());
-    let Place::Act { node, action } = settle(tables, start, 0) else {
-        return (memo, false);
-    };
-    let slot = SLOT_WORDS * plain::slot_number(start, node + 1);
-    let [a, b, c, d] = *start;
-    let words = [node as u64 + 1, action as u64, 64, WRONG, a, b, c, d];
-    memo[slot..slot + SLOT_WORDS].copy_from_slice(&words);
-    (memo, true)
-}
 
 #[test]
 fn verdicts_in_lent_memory() {
@@ -52,7 +34,7 @@ fn verdicts_in_lent_memory() {
             // The tables that are expected behind the call.
             let (mut made, mut start) = (tables.clone(), [0; 4]);
             let number = prepare(&case.bytes, &mut made, &mut start);
-            let (mut memo, misled) = memo(&mut random, &made, &start);
+            let (mut memo, misled) = misleading_memo(&mut random, &made, &start);
             let mut left = memo;
             if length < MAX_TRACE || number != 0 {
                 made = tables.clone();

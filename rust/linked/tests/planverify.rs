@@ -5,17 +5,18 @@ mod common;
 use std::collections::BTreeMap;
 use std::fs::{self, File};
 use std::io::{self, PipeReader, PipeWriter, Read, Write};
-use std::os::fd::{AsRawFd, OwnedFd};
-use std::os::unix::fs::OpenOptionsExt;
-use std::os::unix::net::UnixStream;
 use std::os::unix::process::ExitStatusExt;
-use std::path::{Path, PathBuf};
-use std::process::{Child, Command, Output, Stdio};
+use std::path::Path;
+use std::process::{Command, Output, Stdio};
 use std::sync::atomic::{AtomicUsize, Ordering};
 use std::sync::{LazyLock, Mutex};
 use std::thread;
 use std::time::Duration;
 
+use common::process::{
+    self, non_blocking, output_on, printed, root, said, sample, sample_file, sockets,
+    stop_for_a_moment, Program,
+};
 use common::{around_a_million, counted_lines, excludes, longest, sheets, Case};
 use reference::random::Random;
 use reference::sheet::MAX_BYTES;
@@ -26,74 +27,11 @@ const THREADS: usize = 4;
 /// Different sheets of all kinds.
 static SHEETS: LazyLock<Vec<Vec<u8>>> = LazyLock::new(|| sheets(51).into_iter().collect());
 
-fn root() -> PathBuf {
-    PathBuf::from(env!("CARGO_MANIFEST_DIR")).join("../..")
-}
-
-fn program() -> PathBuf {
-    let path = root().join("target/bin/planverify");
-    assert!(
-        path.exists(),
-        "{} isn't there: run `rt check planverify` first",
-        path.display()
-    );
-    path
-}
-
-fn started() -> Child {
-    started_from(Stdio::piped())
-}
-
-/// The program, running on this standard input.
-fn started_from(input: impl Into<Stdio>) -> Child {
-    Command::new(program())
-        .stdin(input)
-        .stdout(Stdio::piped())
-        .stderr(Stdio::piped())
-        .spawn()
-        .expect("planverify starts")
-}
+const PLANVERIFY: Program = Program("planverify");
 
 /// What it says on standard error where a read or a write fails.
 const UNREAD: &str = "planverify: the input could not be read\n";
 const UNWRITTEN: &str = "planverify: the answer could not be written\n";
-
-/// What it wrote to standard output and to standard error. It must end well.
-fn said(output: Output) -> [String; 2] {
-    assert!(output.status.success(), "{}", output.status);
-    [output.stdout, output.stderr].map(|bytes| String::from_utf8(bytes).expect("ASCII"))
-}
-
-/// What it printed. It must end well and print nothing on standard error.
-fn printed(output: Output) -> String {
-    let [lines, message] = said(output);
-    assert_eq!(message, "");
-    lines
-}
-
-/// What it prints for a sheet that is written in these pieces, with a pause before each.
-fn planverify_in_pieces<'a>(
-    pieces: impl IntoIterator<Item = &'a [u8]>,
-    pause: Option<Duration>,
-) -> String {
-    let mut child = started();
-    let mut input = child.stdin.take().expect("a pipe");
-    for piece in pieces {
-        if let Some(pause) = pause {
-            thread::sleep(pause);
-        }
-        // It may have gone after 1,025 bytes.
-        if input.write_all(piece).and_then(|()| input.flush()).is_err() {
-            break;
-        }
-    }
-    drop(input);
-    printed(child.wait_with_output().expect("planverify ends"))
-}
-
-fn planverify(sheet: &[u8]) -> String {
-    planverify_in_pieces([sheet], None)
-}
 
 fn expected(sheet: &[u8]) -> String {
     String::from_utf8(Case::new(sheet.to_vec()).lines()).expect("ASCII")
@@ -110,7 +48,7 @@ fn compare_all(sheets: &[Vec<u8>]) -> Vec<String> {
                 let Some(sheet) = sheets.get(index) else {
                     break;
                 };
-                let lines = planverify(sheet);
+                let lines = PLANVERIFY.printed(sheet);
                 assert_eq!(lines, expected(sheet), "sheet {sheet:02x?}");
                 printed.lock().unwrap()[index] = lines;
             });
@@ -128,41 +66,17 @@ fn words(printed: &[String]) -> BTreeMap<&str, usize> {
     counts
 }
 
-fn unhex(text: &str) -> Vec<u8> {
-    let digits: Vec<u8> = text
-        .chars()
-        .filter(|digit| !digit.is_whitespace())
-        .map(|digit| digit.to_digit(16).expect("a hexadecimal digit") as u8)
-        .collect();
-    digits
-        .chunks_exact(2)
-        .map(|pair| 16 * pair[0] + pair[1])
-        .collect()
-}
-
-/// A sample sheet.
-fn sample(number: &str) -> Vec<u8> {
-    let path = root().join("samples").join(number).with_extension("hex");
-    unhex(&fs::read_to_string(path).expect("a text file"))
-}
-
 /// The sample sheets and what has to be printed for them.
 fn samples() -> Vec<(Vec<u8>, String)> {
-    let entries = fs::read_dir(root().join("samples")).expect("a directory");
-    let paths = entries.map(|entry| entry.expect("an entry").path());
-    let text = |path| fs::read_to_string(path).expect("a text file");
-    let samples: Vec<(Vec<u8>, String)> = paths
-        .filter(|path| path.extension().is_some_and(|extension| extension == "hex"))
-        .map(|path| (unhex(&text(path.clone())), text(path.with_extension("out"))))
-        .collect();
-    assert_eq!(samples.len(), 25);
-    samples
+    let samples = process::samples().into_iter();
+    let with_lines = |(name, sheet)| (sheet, sample_file(&format!("{name}.out")));
+    samples.map(with_lines).collect()
 }
 
 #[test]
 fn sample_sheets() {
     for (sheet, lines) in samples() {
-        assert_eq!(planverify(&sheet), lines, "sheet {sheet:02x?}");
+        assert_eq!(PLANVERIFY.printed(&sheet), lines, "sheet {sheet:02x?}");
     }
 }
 
@@ -218,8 +132,11 @@ fn cut_anywhere() {
 
 #[test]
 fn nothing_on_standard_input() {
-    assert_eq!(planverify(&[]), "refused 2\n");
-    assert_eq!(printed(output_from(Stdio::null())), "refused 2\n");
+    assert_eq!(PLANVERIFY.printed(&[]), "refused 2\n");
+    assert_eq!(
+        printed(PLANVERIFY.output_from(Stdio::null())),
+        "refused 2\n"
+    );
 }
 
 #[test]
@@ -230,14 +147,26 @@ fn in_pieces() {
     for (index, sheet) in some.chain([&long]).enumerate() {
         let lines = expected(sheet);
         let bytes = sheet.chunks(1);
-        assert_eq!(planverify_in_pieces(bytes, None), lines, "{sheet:02x?}");
+        assert_eq!(
+            PLANVERIFY.printed_in_pieces(bytes, None),
+            lines,
+            "{sheet:02x?}"
+        );
         let length = random.between(1, 50);
         let pieces = sheet.chunks(length);
-        assert_eq!(planverify_in_pieces(pieces, None), lines, "{sheet:02x?}");
+        assert_eq!(
+            PLANVERIFY.printed_in_pieces(pieces, None),
+            lines,
+            "{sheet:02x?}"
+        );
         if index % 8 == 0 {
             let pause = Some(Duration::from_millis(3));
             let pieces = sheet.chunks(sheet.len() / 20 + 1);
-            assert_eq!(planverify_in_pieces(pieces, pause), lines, "{sheet:02x?}");
+            assert_eq!(
+                PLANVERIFY.printed_in_pieces(pieces, pause),
+                lines,
+                "{sheet:02x?}"
+            );
         }
     }
 }
@@ -252,7 +181,7 @@ fn byte_by_byte() {
     sheets.push((longest, lines));
     for (sheet, lines) in sheets {
         let pause = Some(Duration::from_millis(3));
-        let printed = planverify_in_pieces(sheet.chunks(1), pause);
+        let printed = PLANVERIFY.printed_in_pieces(sheet.chunks(1), pause);
         assert_eq!(printed, lines, "{sheet:02x?}");
     }
 }
@@ -261,43 +190,32 @@ fn byte_by_byte() {
 fn long_input() {
     let mut accepted = 0;
     for sheet in SHEETS.iter().filter(|sheet| sheet.len() == MAX_BYTES) {
-        let lines = planverify(sheet);
+        let lines = PLANVERIFY.printed(sheet);
         assert_eq!(lines, expected(sheet));
         accepted += usize::from(lines.starts_with("valid"));
         for more in [1, 2, 3 * MAX_BYTES, 1 << 20] {
             let mut longer = sheet.clone();
             longer.resize(sheet.len() + more, 0);
-            assert_eq!(planverify(&longer), "refused 1\n");
+            assert_eq!(PLANVERIFY.printed(&longer), "refused 1\n");
         }
     }
     assert!(accepted > 0);
     for byte in [0x00, 0x11, 0xff] {
-        assert_eq!(planverify(&vec![byte; MAX_BYTES + 1]), "refused 1\n");
-        assert_eq!(planverify(&vec![byte; 1 << 20]), "refused 1\n");
+        assert_eq!(
+            PLANVERIFY.printed(&vec![byte; MAX_BYTES + 1]),
+            "refused 1\n"
+        );
+        assert_eq!(PLANVERIFY.printed(&vec![byte; 1 << 20]), "refused 1\n");
     }
     // It leaves what it needn't read.
     let (mut reader, mut writer) = io::pipe().expect("a pipe");
     writer.write_all(&[0; MAX_BYTES + 10]).expect("room");
     drop(writer);
     let input = reader.try_clone().expect("the pipe");
-    assert_eq!(printed(output_from(input)), "refused 1\n");
+    assert_eq!(printed(PLANVERIFY.output_from(input)), "refused 1\n");
     let mut rest = Vec::new();
     reader.read_to_end(&mut rest).expect("the rest");
     assert_eq!(rest.len(), 9);
-}
-
-/// Its output for this standard input.
-fn output_from(input: impl Into<Stdio>) -> Output {
-    started_from(input)
-        .wait_with_output()
-        .expect("planverify ends")
-}
-
-/// A shell that runs a script with the program as `$0`.
-fn shell(script: &str) -> Command {
-    let mut command = Command::new("sh");
-    command.args(["-c", script]).arg(program());
-    command
 }
 
 /// A pipe that holds the sheet of case 1, for which `valid 2` is printed, without its
@@ -310,22 +228,12 @@ fn filled_pipe(left: usize) -> (PipeReader, PipeWriter) {
     (reader, writer)
 }
 
-/// The same pipe opened once more, so that reads of it don't wait.
-fn non_blocking(reader: &PipeReader) -> File {
-    const O_NONBLOCK: i32 = 0o4000;
-    File::options()
-        .read(true)
-        .custom_flags(O_NONBLOCK)
-        .open(format!("/proc/self/fd/{}", reader.as_raw_fd()))
-        .expect("the pipe")
-}
-
 #[test]
 fn non_blocking_pipe() {
     let length = sample("01").len();
     for left in [0, 1, length] {
         let (reader, mut writer) = filled_pipe(left);
-        let output = output_from(non_blocking(&reader));
+        let output = PLANVERIFY.output_from(non_blocking(&reader));
         assert_eq!(said(output), ["", UNREAD], "{left} bytes left");
         // It was no end: one byte more arrives.
         writer.write_all(&[0]).expect("room");
@@ -333,17 +241,16 @@ fn non_blocking_pipe() {
     // All bytes and the end are there, or more bytes than a sheet may have.
     let (reader, writer) = filled_pipe(0);
     drop(writer);
-    assert_eq!(printed(output_from(non_blocking(&reader))), "valid 2\n");
+    assert_eq!(
+        printed(PLANVERIFY.output_from(non_blocking(&reader))),
+        "valid 2\n"
+    );
     let (reader, mut writer) = filled_pipe(0);
     writer.write_all(&[0; MAX_BYTES]).expect("room");
-    assert_eq!(printed(output_from(non_blocking(&reader))), "refused 1\n");
-}
-
-/// Two sockets that are connected; a read of the second waits no longer than this.
-fn sockets(timeout: Duration) -> (UnixStream, OwnedFd) {
-    let (ours, theirs) = UnixStream::pair().expect("two sockets");
-    theirs.set_read_timeout(Some(timeout)).expect("a timeout");
-    (ours, OwnedFd::from(theirs))
+    assert_eq!(
+        printed(PLANVERIFY.output_from(non_blocking(&reader))),
+        "refused 1\n"
+    );
 }
 
 #[test]
@@ -351,83 +258,70 @@ fn socket_with_a_receive_timeout() {
     let timeout = Duration::from_millis(50);
     let (mut ours, theirs) = sockets(timeout);
     ours.write_all(&sample("01")).expect("room");
-    assert_eq!(said(output_from(theirs)), ["", UNREAD]);
+    assert_eq!(said(PLANVERIFY.output_from(theirs)), ["", UNREAD]);
     let (mut ours, theirs) = sockets(timeout);
     ours.write_all(&sample("01")).expect("room");
     drop(ours);
-    assert_eq!(printed(output_from(theirs)), "valid 2\n");
+    assert_eq!(printed(PLANVERIFY.output_from(theirs)), "valid 2\n");
 }
 
 #[test]
 fn input_that_cannot_be_read() {
     let directory = File::open(root()).expect("a directory");
-    assert_eq!(said(output_from(directory)), ["", UNREAD]);
+    assert_eq!(said(PLANVERIFY.output_from(directory)), ["", UNREAD]);
     let write_only = File::options().write(true).open("/dev/null");
-    assert_eq!(said(output_from(write_only.unwrap())), ["", UNREAD]);
-    let closed = shell("exec \"$0\" <&-").output().expect("sh starts");
+    assert_eq!(
+        said(PLANVERIFY.output_from(write_only.unwrap())),
+        ["", UNREAD]
+    );
+    let closed = PLANVERIFY
+        .shell("exec \"$0\" <&-")
+        .output()
+        .expect("sh starts");
     assert_eq!(said(closed), ["", UNREAD]);
-    let closed = shell("exec \"$0\" <&- 2>&-").output().expect("sh starts");
+    let closed = PLANVERIFY
+        .shell("exec \"$0\" <&- 2>&-")
+        .output()
+        .expect("sh starts");
     assert_eq!(said(closed), ["", ""]);
 }
 
 /// A shell's output with the sheet of a sample on its standard input.
-fn on_sample(mut shell: Command, number: &str) -> Output {
-    let mut child = shell
-        .stdin(Stdio::piped())
-        .stderr(Stdio::piped())
-        .spawn()
-        .expect("sh starts");
-    let mut input = child.stdin.take().expect("a pipe");
-    input.write_all(&sample(number)).expect("room");
-    drop(input);
-    child.wait_with_output().expect("it ends")
+fn on_sample(shell: Command, number: &str) -> Output {
+    output_on(shell, &sample(number))
 }
 
 #[test]
 fn output_that_cannot_be_written() {
     for number in ["01", "02"] {
         for to in [">&-", ">/dev/full", "1</dev/null"] {
-            let output = on_sample(shell(&format!("exec \"$0\" {to}")), number);
+            let output = on_sample(PLANVERIFY.shell(&format!("exec \"$0\" {to}")), number);
             assert_eq!(said(output), ["", UNWRITTEN], "{to}");
         }
-        let neither = on_sample(shell("exec \"$0\" >/dev/full 2>/dev/full"), number);
+        let neither = on_sample(
+            PLANVERIFY.shell("exec \"$0\" >/dev/full 2>/dev/full"),
+            number,
+        );
         assert_eq!(said(neither), ["", ""]);
     }
-    let unread = shell("exec \"$0\" <&- >/dev/full").output();
+    let unread = PLANVERIFY.shell("exec \"$0\" <&- >/dev/full").output();
     assert_eq!(said(unread.expect("sh starts")), ["", UNREAD]);
 }
 
 #[test]
 fn pipe_that_nobody_reads() {
     let unread = || io::pipe().expect("a pipe").1;
-    let mut ignoring = shell("trap '' PIPE; exec \"$0\"");
+    let mut ignoring = PLANVERIFY.shell("trap '' PIPE; exec \"$0\"");
     ignoring.stdout(unread());
     assert_eq!(said(on_sample(ignoring, "01")), ["", UNWRITTEN]);
     // The system ends it, so that its status tells, unless whoever runs the test
     // ignores the signal.
     const SIGPIPE: i32 = 13;
-    let mut plain = shell("exec \"$0\"");
+    let mut plain = PLANVERIFY.shell("exec \"$0\"");
     plain.stdout(unread());
     let output = on_sample(plain, "01");
     let ended = output.status.signal() == Some(SIGPIPE);
     assert!(ended || said(output) == ["", UNWRITTEN]);
-}
-
-/// Runs it on the sheet of a sample with files limited in size, its output appended
-/// to a file that has room for so many bytes more. Gives what it wrote there, too.
-fn limited(number: &str, room: u64, ignore: &str, path: &Path) -> (Output, String) {
-    const LIMIT: &str = "ulimit -f 1";
-    // Its size is the limit then, whatever a shell takes as a block.
-    let fill = format!("trap '' XFSZ; {LIMIT}; head -c 99999 /dev/zero >\"$1\" 2>/dev/null");
-    shell(&fill).arg(path).status().expect("sh starts");
-    let file = File::options().write(true).open(path).expect("a file");
-    let length = file.metadata().expect("a length").len() - room;
-    file.set_len(length).expect("a shorter file");
-    let mut command = shell(&format!("{ignore} {LIMIT}; exec \"$0\" >>\"$1\""));
-    command.arg(path);
-    let output = on_sample(command, number);
-    let written = fs::read(path).expect("a file").split_off(length as usize);
-    (output, String::from_utf8(written).expect("ASCII"))
 }
 
 #[test]
@@ -435,7 +329,8 @@ fn limited_file_size() {
     let path = Path::new(env!("CARGO_TARGET_TMPDIR")).join("limited");
     for (number, lines) in [("01", "valid 2\n"), ("02", "invalid 2 1\n00 01 00\n")] {
         for room in 0..=lines.len() {
-            let (output, written) = limited(number, room as u64, "trap '' XFSZ;", &path);
+            let (output, written) =
+                PLANVERIFY.limited(&sample(number), room, "trap '' XFSZ;", &path);
             let message = if room < lines.len() { UNWRITTEN } else { "" };
             assert_eq!(said(output), ["", message], "room for {room} bytes");
             assert_eq!(written, lines[..room]);
@@ -443,7 +338,7 @@ fn limited_file_size() {
         for room in [0, 7] {
             // The system ends it, unless whoever runs the test ignores the signal.
             const SIGXFSZ: i32 = 25;
-            let (output, written) = limited(number, room as u64, "", &path);
+            let (output, written) = PLANVERIFY.limited(&sample(number), room, "", &path);
             let ended = output.status.signal() == Some(SIGXFSZ);
             assert!(ended || said(output) == ["", UNWRITTEN]);
             assert_eq!(written, lines[..room]);
@@ -458,7 +353,11 @@ fn asked_by_a_script() {
     const ASK: &str = "\"$0\" | grep -q '^valid '";
     let mut valid = 0;
     for (sheet, lines) in samples() {
-        let mut child = shell(ASK).stdin(Stdio::piped()).spawn().expect("sh starts");
+        let mut child = PLANVERIFY
+            .shell(ASK)
+            .stdin(Stdio::piped())
+            .spawn()
+            .expect("sh starts");
         let mut input = child.stdin.take().expect("a pipe");
         // It may have gone after 1,025 bytes.
         let _ = input.write_all(&sheet);
@@ -469,38 +368,30 @@ fn asked_by_a_script() {
     }
     assert!((1..17).contains(&valid));
     let (reader, _writer) = filled_pipe(0);
-    let output = shell(ASK).stdin(non_blocking(&reader)).output();
+    let output = PLANVERIFY.shell(ASK).stdin(non_blocking(&reader)).output();
     assert!(!output.expect("sh starts").status.success());
-}
-
-/// Stops it while it waits for input, and lets it go on.
-fn stop_for_a_moment(child: &Child) {
-    thread::sleep(Duration::from_millis(50));
-    let script = format!("kill -STOP {0}; kill -CONT {0}", child.id());
-    let status = Command::new("sh").args(["-c", &script]).status();
-    assert!(status.expect("sh starts").success());
 }
 
 /// A stop interrupts no read of a pipe. It interrupts one of a socket with a
 /// timeout, which counts as failed.
 #[test]
 fn stopped_and_continued() {
-    let mut child = started();
+    let mut child = PLANVERIFY.started();
     let mut input = child.stdin.take().expect("a pipe");
     for byte in sample("01") {
         stop_for_a_moment(&child);
         input.write_all(&[byte]).expect("room");
     }
     drop(input);
-    let output = child.wait_with_output().expect("planverify ends");
+    let output = child.wait_with_output().expect("it ends");
     assert_eq!(printed(output), "valid 2\n");
 
     let (mut ours, theirs) = sockets(Duration::from_secs(100));
     ours.write_all(&sample("01")).expect("room");
-    let mut child = started_from(theirs);
+    let mut child = PLANVERIFY.started_from(theirs);
     while child.try_wait().expect("a child").is_none() {
         stop_for_a_moment(&child);
     }
-    let output = child.wait_with_output().expect("planverify ends");
+    let output = child.wait_with_output().expect("it ends");
     assert_eq!(said(output), ["", UNREAD]);
 }

@@ -1,11 +1,11 @@
-//! Turns the lines of `rows`, `edges` and `records` into claims that the prover
-//! evaluates.
+//! Turns the lines of `rows`, `edges`, `records` and `streams` into claims that the
+//! prover evaluates.
 //!
 //! `theorems DIR` reads the lines from standard input and writes a crate of
 //! definitions to DIR: one claim for each verdict, printed line, talk with the
-//! runner, checked trace, refusal, and call on a record, each to be proved by
-//! evaluation. A claim whose answer differs from the definitions' is refused, and
-//! its name has the line's number. The number of claims is printed.
+//! runner, checked trace, refusal, call on a record, and line of figures, each to be
+//! proved by evaluation. A claim whose answer differs from the definitions' is
+//! refused, and its name has the line's number. The number of claims is printed.
 
 use std::env;
 use std::fmt::Write;
@@ -51,6 +51,7 @@ use Rattle.semantics.specs.Verdict.{valid, invalid, stopped, verified}
 use Rattle.semantics.specs.Replies.{to-do, at-end, told, reported}
 use Rattle.semantics.specs.Checker.{checked}
 use Rattle.semantics.specs.Printing.{printed}
+use Rattle.semantics.specs.Figures.{figuresLine}
 use Rattle.runner.specs.Records.{padded, nextOn, reportOn, recordAfter}
 use Rattle.compared.specs.Claims.{Verifies, Talks, refusalOf}
 ";
@@ -126,7 +127,17 @@ impl Module {
                 };
                 self.record(number, &record, told, reports);
             }
-            _ => panic!("not a line of rows, edges or records: {row}"),
+            ["stream", stream, line] => {
+                let line = numbers(format!("{line}\n").bytes());
+                let statement = format!("figuresLine {} ≡ {line}", byte_list(stream));
+                self.claim(
+                    format!("figures-{number}"),
+                    statement,
+                    "figuresLine",
+                    "refl",
+                );
+            }
+            _ => panic!("not a line of rows, edges, records or streams: {row}"),
         }
     }
 

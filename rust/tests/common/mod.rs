@@ -1,6 +1,9 @@
 //! Helpers shared by the tests; no single test file uses all of them.
 #![allow(dead_code)]
 
+use std::fs;
+use std::path::PathBuf;
+
 use reference::sheet::{Action, Epistemic, Objective, Program, Sheet, MAX_TRACE};
 use reference::verify::{verify, Answer};
 
@@ -16,6 +19,13 @@ pub fn unhex(text: &str) -> Vec<u8> {
         .chunks(2)
         .map(|pair| (16 * pair[0] + pair[1]) as u8)
         .collect()
+}
+
+/// The bytes of a sample sheet.
+pub fn sample(name: &str) -> Vec<u8> {
+    let directory = PathBuf::from(env!("CARGO_MANIFEST_DIR")).join("../samples");
+    let path = directory.join(format!("{name}.hex"));
+    unhex(&fs::read_to_string(path).expect("a text file"))
 }
 
 /// The bytes of binary digits, padded with zeros; white space is skipped.

@@ -1,6 +1,7 @@
 -- `after` meets its contract: the cases of the definition, in the order of the code. Assumes nothing.
 use native.Mathlib.Omega.{arith}
-use Rattle.planverify.proofs.InputLaws.{after-failed, after-end, after-fits, after-put, after-more, after-full}
+use Rattle.lists.proofs.SignedLaws.{held-fits}
+use Rattle.planverify.proofs.InputLaws.{after-failed, after-end, after-put, after-more, after-full}
 use Rattle.planverify.proofs.after.Statement.{statement}
 use Rattle.planverify.proofs.after.Tie as tie
 
@@ -11,7 +12,7 @@ returns-2 : tie.Need-returns-2
 returns-2 c = after-end _ _ _ (c .before .before .fits .got) (c .before .if1 .left) (c .if2 .taken)
 
 cast-n : tie.Need-cast-n
-cast-n c = let s = c .before .before in after-fits (s .args .done) (s .args .most) _ (s .fits .got) (c .before .if1 .left)
+cast-n c = held-fits _ (c .before .before .fits .got) (c .before .if1 .left)
 
 add-n : tie.Need-add-n
 add-n c =

@@ -2,7 +2,7 @@
 use Prim.Native.Nat.{ℕ}
 use lib.ListN.{length-replicate}
 use Rattle.semantics.specs.Printing.{mostLines}
-use Rattle.planverify.proofs.InputLaws.{lines-first}
+use Rattle.printing.proofs.LineLaws.{lines-first}
 use borrow.Author.Needs.{needs}
 use Rattle.planverify.proofs.respond.Statement.{statement}
 use Rattle.planverify.proofs.respond.Tie as tie

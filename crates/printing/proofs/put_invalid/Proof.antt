@@ -17,9 +17,6 @@ element-write-out c = search needs
 add-put-decimal : tie.Need-add-put-decimal
 add-put-decimal c = search needs
 
-cast-put-decimal : tie.Need-cast-put-decimal
-cast-put-decimal c = search needs
-
 put-decimal-requires : tie.Need-put-decimal-requires
 put-decimal-requires c κs =
     let d = c .before .before .before .before in omega (arith, c .before .put-counted .ensures .1, decimal-most (d .args .l) (omega (arith, d .pre .0)))
@@ -70,7 +67,6 @@ put-invalid-spec =
     put-counted-requires
     element-write-out
     add-put-decimal
-    cast-put-decimal
     put-decimal-requires
     element-write-out-2
     add-put-trace

@@ -10,8 +10,9 @@
 
 use std::arch::asm;
 
-use linked::{Record, Tables, Verdict, Words, LINES, MEMO_WORDS, REPLIES, SHEET};
+use linked::{Record, Stream, Tables, Verdict, Words, FIGURES, LINES, MEMO_WORDS, REPLIES, SHEET};
 use reference::encode::encode;
+use reference::figures::stream_of;
 use reference::read::read;
 use reference::sheet::{
     Action, Epistemic, Objective, Program, Sheet, MAX_ACTION_NODES, MAX_BRANCH_NODES, MAX_DEPTH,
@@ -47,7 +48,7 @@ fn main() {
         }
     }
     println!("{} sheets, {refused} of them refused", sheets.len());
-    println!("{:<19} {:>11}  sheet", "function", "stack bytes");
+    println!("{:<22} {:>11}  sheet", "function", "stack bytes");
     most.print();
     let mut tiny = Needs::default();
     tiny.add("sample 1, 9 bytes", &SAMPLE_1, &mut tables);
@@ -68,6 +69,9 @@ struct Needs {
     load: [Need; 2],
     next: [Need; 2],
     report: [Need; 2],
+    feed: Need,
+    end: Need,
+    line: Need,
 }
 
 impl Needs {
@@ -97,6 +101,7 @@ impl Needs {
         verifier_calls(name, bytes, expected, tables, verify, check);
         let [load, next, report] = [&mut self.load, &mut self.next, &mut self.report];
         runner_calls(name, bytes, expected, tables, load, next, report);
+        self.add_figures(name, bytes, expected, tables);
         expected == 0
     }
 
@@ -119,6 +124,37 @@ impl Needs {
         assert!(known, "{name}");
     }
 
+    /// The calls on a stream of the sheet alone, which comes in two pieces.
+    fn add_figures(&mut self, name: &str, bytes: &[u8], expected: u8, tables: &mut Tables) {
+        let whole = stream_of([bytes]);
+        let (first, second) = whole.split_at(whole.len() / 2);
+        let mut memo = [0; MEMO_WORDS];
+        let mut stream = Stream::empty();
+        for piece in [first, second] {
+            let before = stream.clone();
+            self.feed.add(name, &mut || {
+                // Not as a whole, which would take some of this stack.
+                stream.numbers.copy_from_slice(&before.numbers);
+                stream.begun.copy_from_slice(&before.begun);
+                linked::figures_feed(piece, &mut stream, tables, &mut memo);
+            });
+        }
+        let (mut figures, mut out, mut length) = ([0; FIGURES], [0; LINES], 0);
+        self.end
+            .add(name, &mut || linked::figures_end(&stream, &mut figures));
+        self.line.add(name, &mut || {
+            length = linked::figures_print(&figures, &mut out)
+        });
+        let [valid, invalid, stopped, refused, ..] = figures;
+        assert_eq!(
+            valid + invalid + stopped,
+            u64::from(expected == 0),
+            "{name}"
+        );
+        assert_eq!(refused, u64::from(expected != 0), "{name}");
+        assert!(length > 0, "{name}");
+    }
+
     fn print(&self) {
         self.read.print("recovery_read");
         self.prepare.print("recovery_prepare");
@@ -136,6 +172,9 @@ impl Needs {
             forms[0].print(name);
             forms[1].print(&format!("{name}_in"));
         }
+        self.feed.print("recovery_figures_feed");
+        self.end.print("recovery_figures_end");
+        self.line.print("recovery_figures_print");
     }
 }
 
@@ -232,7 +271,7 @@ impl Need {
     }
 
     fn print(&self, name: &str) {
-        println!("{name:<19} {:>11}  {}", self.bytes, self.sheet);
+        println!("{name:<22} {:>11}  {}", self.bytes, self.sheet);
     }
 }
 

@@ -2,12 +2,16 @@
 //! test file uses all of it.
 #![allow(dead_code)]
 
-use std::collections::BTreeSet;
+pub mod process;
 
+use std::collections::{BTreeSet, HashMap};
+
+use linked::plain::{self, SLOT_WORDS};
 use linked::straight::{counted, histories, reply_counts, sequence, straight};
-use linked::{plain, Tables, Verdict};
+use linked::{settle, Place, Tables, Verdict, Words, MEMO_WORDS};
 use reference::edges::{self, edges};
 use reference::encode::encode;
+use reference::figures::{figures_by, Figures};
 use reference::print::lines;
 use reference::random::{constrained, damaged, good, Random, Size};
 use reference::read::read;
@@ -64,6 +68,26 @@ impl Case {
     }
 }
 
+/// What the Rust implementation answers with the budget of `planverify`, each sheet being
+/// verified once.
+#[derive(Clone, Default)]
+pub struct Answers(HashMap<Vec<u8>, Answer>);
+
+impl Answers {
+    pub fn to(&mut self, sheet: &[u8]) -> Answer {
+        if let Some(answer) = self.0.get(sheet) {
+            return *answer;
+        }
+        let answer = Case::new(sheet.to_vec()).verify(BUDGET, &mut [0; MAX_TRACE]);
+        self.0.insert(sheet.to_vec(), answer);
+        answer
+    }
+
+    pub fn figures(&mut self, stream: &[u8]) -> Figures {
+        figures_by(|sheet| self.to(sheet), stream)
+    }
+}
+
 pub fn answer(verdict: Verdict) -> Answer {
     match verdict {
         Verdict::Valid { count } => Answer::Valid { count },
@@ -79,6 +103,27 @@ pub fn excludes(sheet: &[u8]) -> bool {
 
 pub fn bytes(random: &mut Random, length: usize) -> Vec<u8> {
     (0..length).map(|_| random.bits() as u8).collect()
+}
+
+/// More histories than any of the sheets has, as far as they are searched.
+const WRONG: u64 = 77_777_777;
+
+/// A memo full of any numbers; for a routine with an action, in the slot of its first
+/// one, with what would let every search pass, and whether that is in it.
+pub fn misleading_memo(
+    random: &mut Random,
+    tables: &Tables,
+    start: &Words,
+) -> ([u64; MEMO_WORDS], bool) {
+    let mut memo = [0; MEMO_WORDS].map(|_: u64| random.bits());
+    let Place::Act { node, action } = settle(tables, start, 0) else {
+        return (memo, false);
+    };
+    let slot = SLOT_WORDS * plain::slot_number(start, node + 1);
+    let [a, b, c, d] = *start;
+    let words = [node as u64 + 1, action as u64, 64, WRONG, a, b, c, d];
+    memo[slot..slot + SLOT_WORDS].copy_from_slice(&words);
+    (memo, true)
 }
 
 /// Different sheets: at the limits, random ones of every size, damaged and cut

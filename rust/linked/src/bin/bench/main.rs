@@ -2,12 +2,13 @@
 //!
 //! Each line gives the least time of a call for each, and the quotients. Run it
 //! in release mode; an argument chooses one of the sections "reading", "tables",
-//! "steps", "verifying", "slowest", "lent", "growth" and "runner". Behind "growth"
-//! the path of a picture to write may follow. With the feature `before` the proved
+//! "steps", "verifying", "slowest", "lent", "growth", "runner" and "figures". Behind
+//! "growth" the path of a picture to write may follow. With the feature `before` the proved
 //! reader, tables, steps, settling, verifier and runner of an earlier commit are timed
 //! too.
 
 mod before;
+mod figures;
 mod growth;
 mod lent;
 mod picture;
@@ -69,6 +70,10 @@ fn main() {
     if wanted("runner") {
         println!("\nthe runner at the last action of a run, 8 facts where none are named");
         runner_rows();
+    }
+    if wanted("figures") {
+        println!("\nthe figures of a stream, fed in pieces of 65,536 bytes");
+        figures::rows();
     }
 }
 

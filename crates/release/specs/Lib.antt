@@ -1,0 +1,4 @@
+pub mod Counting
+pub mod Framing
+pub mod Filling
+pub mod Feeding
