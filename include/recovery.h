@@ -302,6 +302,16 @@ uint8_t recovery_prepare(const uint8_t *bytes, size_t length, uint16_t heads[REC
 void recovery_step(const uint16_t heads[RECOVERY_HEAD_CELLS], const uint64_t sets[RECOVERY_SET_WORDS],
                    uint64_t set[RECOVERY_STATE_WORDS], size_t action, size_t reply);
 
+/*
+ * One pass over the possible states when a reply to one of the sheet's actions comes in: replaces the set by those of
+ * its states in which the reply is true, and writes how often it evaluated the reply, which is once for each state of
+ * the set before. 1 if a state is kept, so that the reply is possible, else 0. A reply that the action hasn't is true
+ * in no state. The set is that of the states possible after the action's effect: for a probe those possible before it,
+ * for a change those that recovery_step gives for reply 0.
+ */
+uint8_t recovery_pass(const uint16_t heads[RECOVERY_HEAD_CELLS], const uint64_t sets[RECOVERY_SET_WORDS],
+                      uint64_t set[RECOVERY_STATE_WORDS], size_t action, size_t reply, uint64_t evaluations[1]);
+
 /* Where the program settles from node `at` on, the states of the set being possible: see below. Writes nothing. */
 uint64_t recovery_settle(const uint16_t nodes[RECOVERY_NODE_CELLS], const uint64_t sets[RECOVERY_SET_WORDS],
                          const uint64_t set[RECOVERY_STATE_WORDS], size_t at);

@@ -267,6 +267,40 @@ static void walking(void)
     EXPECT(set[0] == 2 && set[1] == 0 && set[2] == 0 && set[3] == 0);
 }
 
+/* A pass over these states, all below 64, keeps those and gives this number, after so many evaluations. */
+static int passes(uint64_t states, size_t action, size_t reply, uint64_t kept, uint8_t possible, uint64_t evaluated)
+{
+    uint64_t lent[RECOVERY_STATE_WORDS] = {states}, expected[RECOVERY_STATE_WORDS] = {kept};
+    uint64_t evaluations[3] = {5, UINT64_MAX, 7};
+
+    return recovery_pass(tables.heads, tables.sets, lent, action, reply, evaluations + 1) == possible &&
+           IS(lent, expected) && evaluations[0] == 5 && evaluations[1] == evaluated && evaluations[2] == 7;
+}
+
+static void passing(void)
+{
+    uint64_t evaluations[1] = {0};
+
+    /* Both states are possible; reply 0 is that the fact is true, reply 1 that it isn't, and there is no other. */
+    mark();
+    EXPECT(recovery_prepare(SHEET(invalid), TABLES, set) == RECOVERY_ACCEPTED && set[0] == 3);
+    COPY(prepared, tables);
+    EXPECT(passes(3, 0, 0, 2, 1, 2) && passes(3, 0, 1, 1, 1, 2) && passes(2, 0, 0, 2, 1, 1));
+    EXPECT(passes(1, 0, 0, 0, 0, 1) && passes(2, 0, 1, 0, 0, 1));
+    EXPECT(passes(3, 0, 2, 0, 0, 2) && passes(3, 0, SIZE_MAX, 0, 0, 2) && passes(3, 31, 0, 0, 0, 2));
+    EXPECT(passes(0, 0, 0, 0, 0, 0) && passes(0, 0, 2, 0, 0, 0));
+    memset(set, 0xFF, sizeof set);
+    EXPECT(recovery_pass(tables.heads, tables.sets, set, 0, 0, evaluations) == 1 && evaluations[0] == 256);
+    memset(marked_set, 0xAA, sizeof marked_set);
+    EXPECT(IS(set, marked_set) && IS(tables, prepared));
+
+    /* The states after a change, which is action 1, are those of a step: the pass itself takes none. */
+    EXPECT(recovery_prepare(SHEET(constrained), TABLES, set) == RECOVERY_ACCEPTED && set[0] == 7);
+    EXPECT(passes(7, 1, 0, 7, 1, 3) && passes(7, 1, 1, 0, 0, 3));
+    recovery_step(tables.heads, tables.sets, set, 1, 0);
+    EXPECT(set[0] == 2 && passes(set[0], 1, 0, 2, 1, 1));
+}
+
 /* The bytes of a stream. */
 static uint8_t bytes[2048];
 static size_t length;
@@ -396,6 +430,7 @@ int main(void)
     verifying();
     running();
     walking();
+    passing();
     feeding();
     return failed;
 }

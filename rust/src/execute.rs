@@ -3,7 +3,7 @@
 use crate::refusal::Refusal;
 use crate::sheet::{Program, Sheet};
 use crate::states::StateSet;
-use crate::step::{gather, keep, start_states};
+use crate::step::{gather, pass, replies, start_states};
 use crate::truth::holds_knowing;
 
 /// A routine at the point reached by the replies so far.
@@ -49,11 +49,12 @@ impl<'a> Execution<'a> {
         if reply >= action.reply_count() {
             return Err(Refusal::NoSuchReply);
         }
-        let kept = keep(action, reply, &gather(self.sheet, action, &self.possible));
-        if kept.is_empty() {
+        let gathered = gather(self.sheet, action, &self.possible);
+        let passed = pass(&gathered, |after| replies(action, reply, after));
+        if !passed.possible {
             return Err(Refusal::Impossible);
         }
-        self.possible = kept;
+        self.possible = passed.kept;
         self.agenda.pop();
         self.agenda.push(rest);
         self.settle();

@@ -47,7 +47,38 @@ pub fn gather(sheet: &Sheet, action: &Action, possible: &StateSet) -> StateSet {
     }
 }
 
-/// The states after the effect in which the reply is true.
+/// What one pass over the possible states tells of a reply.
+#[derive(Clone, Copy, Debug, PartialEq, Eq)]
+pub struct Passed {
+    /// The states in which the reply is true.
+    pub kept: StateSet,
+    /// Whether there is such a state.
+    pub possible: bool,
+    /// How often the reply was evaluated.
+    pub evaluations: usize,
+}
+
+/// One pass over the possible states when a reply comes in: it is evaluated once in
+/// each, in increasing order.
+pub fn pass(possible: &StateSet, is_true: impl Fn(State) -> bool) -> Passed {
+    let mut passed = Passed {
+        kept: StateSet::default(),
+        possible: false,
+        evaluations: 0,
+    };
+    for state in possible.iter() {
+        let holds = is_true(state);
+        passed.evaluations += 1;
+        if holds {
+            passed.kept.insert(state);
+            passed.possible = true;
+        }
+    }
+    passed
+}
+
+/// The states after the effect in which the reply is true: what a pass keeps, for a
+/// search, which tries each reply and needs no count.
 pub fn keep(action: &Action, reply: u8, gathered: &StateSet) -> StateSet {
     gathered
         .iter()

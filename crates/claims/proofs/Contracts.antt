@@ -12,8 +12,8 @@ use Rattle.progression.specs.Machine.{knownBy, settled, stepped}
 use Rattle.runner.specs.Calls.{Form}
 use Rattle.runner.proofs.ListLaws.{RunnerContracts, Going}
 use Rattle.claims.specs.Library.{Library, Gave}
-use Rattle.claims.specs.Library.{ToVerify, AfterVerify, ToCheck, AfterCheck, ToPrepare, AfterPrepare, ToStep, ToSettle, ToKnow, ToLoad, AfterLoad, ToNext, AfterNext, ToReport, AfterReport, AfterPrint, ToFeed, AfterFeed, ToFinish, ToLine}
-use Rattle.claims.specs.Terms.{verifiedAs, checkedAs, preparedAs, loadedAs, toldAs, reportedAs, fedAs, finishedAs, lineAs}
+use Rattle.claims.specs.Library.{ToVerify, AfterVerify, ToCheck, AfterCheck, ToPrepare, AfterPrepare, ToStep, ToPass, AfterPass, ToSettle, ToKnow, ToLoad, AfterLoad, ToNext, AfterNext, ToReport, AfterReport, AfterPrint, ToFeed, AfterFeed, ToFinish, ToLine}
+use Rattle.claims.specs.Terms.{verifiedAs, checkedAs, preparedAs, passedAs, loadedAs, toldAs, reportedAs, fedAs, finishedAs, lineAs}
 
 pub record Contracts {ℓ} (library : Library {ℓ}) : Type ℓ where
   pub read-contract : (sheet : List ℕ) (a : Answer (Unit {0})) → Gave (library .read) sheet a → a ≡ withoutValue (reading sheet)
@@ -22,6 +22,7 @@ pub record Contracts {ℓ} (library : Library {ℓ}) : Type ℓ where
   pub prepare-contract : (x : ToPrepare) (y : AfterPrepare) → Gave (library .prepare) x y → y ≡ preparedAs x
   pub prepare-sized : (x : ToPrepare) (y : AfterPrepare) → Gave (library .prepare) x y → Sized (x .tables .heads) (x .tables .nodes) (x .tables .sets)
   pub step-contract : (x : ToStep) (set : List ℕ) → Gave (library .step) x set → set ≡ words (stepped (x .tables .heads) (x .tables .sets) (ofWords (x .set)) (x .action) (x .reply))
+  pub pass-contract : (x : ToPass) (y : AfterPass) → Gave (library .pass) x y → y ≡ passedAs x
   pub settle-contract : (x : ToSettle) (stop : Stop) → Gave (library .settle) x stop → stop ≡ settled (x .tables .nodes) (x .tables .sets) (ofWords (x .set)) (x .at)
   pub know-contract : (x : ToKnow) (b : Bool) → Gave (library .know) x b → b ≡ knownBy (x .tables .sets) (ofWords (x .set)) (x .formula)
   pub runner-contracts : RunnerContracts (library .runner)

@@ -2,7 +2,7 @@
 use Prim.Native.Nat.{ℕ, _≤_}
 use native.Mathlib.Nat.{ℕ-set}
 use mathlib.Core.Bool.{Bool}
-use mathlib.Core.List.{List, [], List·isSet}
+use mathlib.Core.List.{List, [], _∷_, List·isSet}
 use mathlib.Core.Path.{_≡_, refl, sym, ap, subst, _∙_}
 use mathlib.Core.Logic.{∥∥₁-prop, ∥∥₁-elim, ∥∥₁-map}
 use lib.ListN.{length, take}
@@ -28,30 +28,37 @@ use Rattle.semantics.specs.Printing.{printed}
 use Rattle.routine.specs.Memory.{Sized}
 use Rattle.printing.proofs.LineLaws.{lines-back}
 use Rattle.progression.specs.declared.place.Place.{Place as Stop}
-use Rattle.progression.specs.Machine.{stepped, settled, knownBy, Inside}
+use Rattle.progression.specs.declared.reply.Passed.{Passed}
+use Rattle.progression.specs.Machine.{stepped, passedBy, settled, knownBy, Inside}
 use Rattle.runner.specs.declared.calls.Record.{Record}
 use Rattle.runner.specs.Records.{sheetIn, nextOn, reportOn}
 use Rattle.runner.specs.Calls.{Form, own, lent}
 use Rattle.recovery.specs.Numbers.{memoryAfter, startWords, verdictNumbers, checkedNumber, placeNumber, flagNumber, toldNumbers, lengthsOf, DoneRead, ValueRead, CheckRead, FlagRead, PlaceRead}
 use Rattle.recovery.proofs.ReadLaws.{done-read, done-one, value-read, value-one, verdict-one, told-one, check-read, check-one, flag-read, flag-one, place-read, place-one}
-use Rattle.recovery.specs.Arguments.{Tables, tablesAfter, toRead, toPrepare, toStep, toSettle, toKnow, toPrint}
+use Rattle.recovery.specs.Arguments.{Tables, tablesAfter, toRead, toPrepare, toStep, toPass, toSettle, toKnow, toPrint}
 use Rattle.recovery.proofs.CallLaws as linked-calls
 use Rattle.recovery.proofs.recovery_read.Symbol as read-symbol
 use Rattle.recovery.proofs.recovery_print.Symbol as print-symbol
 use Rattle.recovery.proofs.recovery_prepare.Symbol as prepare-symbol
 use Rattle.recovery.proofs.recovery_step.Symbol as step-symbol
+use Rattle.recovery.proofs.recovery_pass.Symbol as pass-symbol
 use Rattle.recovery.proofs.recovery_settle.Symbol as settle-symbol
 use Rattle.recovery.proofs.recovery_known.Symbol as known-symbol
 use Rattle.claims.specs.Library.{Gave, EveryCallEnds}
-use Rattle.claims.specs.Library.{ToVerify, AfterVerify, ToCheck, AfterCheck, ToPrint, AfterPrint, ToPrepare, AfterPrepare, ToStep, ToSettle, ToKnow}
+use Rattle.claims.specs.Library.{ToVerify, AfterVerify, ToCheck, AfterCheck, ToPrint, AfterPrint, ToPrepare, AfterPrepare, ToStep, ToPass, AfterPass, ToSettle, ToKnow}
 use Rattle.claims.specs.Library.{ToLoad, AfterLoad, ToNext, AfterNext, ToReport, AfterReport}
 use Rattle.claims.specs.Linked.{verifier, verifying, checker, checking, loader, loading, teller, telling, reporter, reporting, SameIfOwn, compiled, linked}
-use Rattle.claims.specs.Terms.{tablesLeft, memoLeft, verifiedAs, checkedAs, printedAs, preparedAs, loadedAs, toldAs, reportedAs}
+use Rattle.claims.specs.Terms.{tablesLeft, memoLeft, verifiedAs, checkedAs, printedAs, preparedAs, passedAs, loadedAs, toldAs, reportedAs}
 use Rattle.claims.proofs.SetLaws.{unit-answer-set, bool-answer-set, verdict-answer-set, told-answer-set, place-set, record-set, tables-set}
 use Rattle.claims.proofs.NumberLaws.{reading-numbered, checked-numbered, verified-numbered, next-numbered, report-numbered}
 
 pub list-set : IsSet (List ℕ)
 list-set = List·isSet ℕ-set
+
+-- The memory that was lent to a pass, by its parts.
+pass-parts : (p : ℕ → Place) (t : Tables) (action reply : ℕ) (kept kept′ : List ℕ) (n n′ : ℕ) → toPass p t kept action reply (n ∷ []) ≡ toPass p t kept′ action reply (n′ ∷ [])
+    → (kept ≡ kept′) × (n ≡ n′)
+pass-parts p t action reply kept kept′ n n′ e = (cc, cc)
 
 module _ {M : Type 1} (𝓤 : URA M) (H : Heap 𝓤) (𝓜 : Model 𝓤 H) (𝓖 : GhostRules 𝓤 H) where
   abbrev library : Rattle.claims.specs.Library.Library {1}
@@ -324,6 +331,44 @@ module _ {M : Type 1} (𝓤 : URA M) (H : Heap 𝓤) (𝓜 : Model 𝓤 H) (𝓖
   pub step-fixed : (x : ToStep) (set : List ℕ) → Gave (library .step) x set → set ≡ words (stepped (x .tables .heads) (x .tables .sets) (ofWords (x .set)) (x .action) (x .reply))
   step-fixed x set g =
       ∥∥₁-elim (gave-meant step-symbol.routine step-arguments _ (λ x. vunit) step-last step-leaves x set g) (list-set _ _) (λ m. let e = m .2 .1 in cc)
+
+  -- The pass.
+  abbrev passed : ToPass → Passed
+  passed x = passedBy (x .tables .heads) (x .tables .sets) (ofWords (x .set)) (x .action) (x .reply)
+
+  abbrev pass-arguments : (ℕ → Place) → ToPass → List Argument
+  pass-arguments p x = toPass p (x .tables) (x .set) (x .action) (x .reply) (x .evaluations)
+
+  abbrev pass-result : ToPass → Val
+  pass-result x = vint w8 (flagNumber (passed x .possible))
+
+  abbrev pass-last : (ℕ → Place) → ToPass → List Argument
+  pass-last p x = toPass p (x .tables) (words (passed x .kept)) (x .action) (x .reply) (passed x .evaluations ∷ [])
+
+  pass-leaves : (p : ℕ → Place) (x : ToPass) → Leaves 𝓤 H 𝓜 𝓖 pass-symbol.routine (pass-arguments p x) (pass-result x) (pass-last p x)
+  pass-leaves p x = linked-calls.pass-leaves 𝓤 H 𝓜 𝓖 p (x .tables) (x .set) (x .action) (x .reply) (x .evaluations)
+
+  pub pass-ends : EveryCallEnds (library .pass)
+  unfolding passedAs
+  pass-ends =
+      every-ends pass-symbol.routine pass-arguments _ pass-result pass-last pass-leaves (λ p x others c.
+      ∣ (passedAs x, (flagNumber (passed x .possible), refl, refl, flag-read (passed x .possible))) ∣₁)
+
+  module _ (x : ToPass) (y : AfterPass) (g : Gave (library .pass) x y) where
+    pass-meant : ∥ ((y .possible ≡ passed x .possible) × (y .kept ≡ words (passed x .kept)) × (y .evaluations ≡ passed x .evaluations)) ∥₁
+    pass-meant =
+        ∥∥₁-map (gave-meant pass-symbol.routine pass-arguments _ pass-result pass-last pass-leaves x y g) (λ m.
+        let parts = pass-parts (m .0) (x .tables) (x .action) (x .reply) _ _ _ _ (sym (m .2 .2)) in
+        let k : flagNumber (passed x .possible) ≡ m .2 .0 = let e = m .2 .1 in cc in
+        (flag-one (m .2 .0) (y .possible) (passed x .possible) (m .2 .3) (subst (λ (n : ℕ). FlagRead n (passed x .possible)) k (flag-read (passed x .possible))), parts .0, parts .1))
+
+    pub pass-fixed : y ≡ passedAs x
+    unfolding passedAs
+    pass-fixed =
+        let possible = ∥∥₁-elim pass-meant (coded-set codedBool _ _) (λ m. m .0) in
+        let kept = ∥∥₁-elim pass-meant (list-set _ _) (λ m. m .1) in
+        let evaluations = ∥∥₁-elim pass-meant (ℕ-set _ _) (λ m. m .2) in
+        λ i. record { possible = possible i; kept = kept i; evaluations = evaluations i }
 
   -- Settling.
   abbrev settle-arguments : (ℕ → Place) → ToSettle → List Argument

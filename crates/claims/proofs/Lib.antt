@@ -10,6 +10,7 @@ pub mod Demand2Laws
 pub mod Demand3Laws
 pub mod ConstraintLaws
 pub mod ReleaseLaws
+pub mod PassLaws
 pub mod SupportLaws
 pub mod StreamSupport
 pub mod Theorem

@@ -1,8 +1,8 @@
 -- The figures of a stream, of any library that keeps the contracts. Assumes nothing.
-use Prim.Native.Nat.{ℕ, _+_, _*_, _-_, _≤_, _<_}
+use Prim.Native.Nat.{ℕ, _+_, _*_, _≤_, _<_}
 use native.Mathlib.Omega.{arith}
 use mathlib.Core.Path.{_≡_, refl, sym, ap, _∙_}
-use mathlib.Core.Logic.{_⊎_, ⊎-elim, _↔_}
+use mathlib.Core.Logic.{⊎-elim, _↔_}
 use mathlib.Core.List.{List, [], _∷_, _++_, map, append-nil}
 use mathlib.Core.Bool.{Bool, true, false}
 use lib.ListN.{length, replicate, drop-of-length-le}
@@ -16,14 +16,14 @@ use Rattle.semantics.specs.Verdict.{Verdict, outcomeOf, verdictOf, verified}
 use Rattle.semantics.specs.Printing.{numbersLine}
 use Rattle.semantics.specs.Figures.{framed, AllSaid, whole, none, first, Apart, apart, mostLengths, cuts, answerTo, answersTo, countIn, sumOf, figuresOf, Figures, figures, together, lengthsBegun, figureNumbers, figuresLine}
 use Rattle.semantics.proofs.MemoryLaws.{admitted-long}
-use Rattle.semantics.proofs.FigureLaws.{first-some, first-cut, apart-none, apart-whole, apart-empty, apart-cut, apart-full, apart-sheets, every-stream, figures-add-up, figures-together, reading-long}
+use Rattle.semantics.proofs.FigureLaws.{first-some, first-cut, apart-none, apart-whole, apart-empty, apart-cut, apart-full, apart-sheets, every-stream, figures-by, figures-add-up, figures-together, answer-is, reading-long}
 use Rattle.release.specs.declared.feeding.Release.{Release as State}
 use Rattle.release.specs.Counting.{meantBy, noFigures}
 use Rattle.release.specs.Framing.{mostBegun, lengthOf, sizeOf}
 use Rattle.release.specs.Feeding.{fed, stateOf, isDone, ended}
 use Rattle.release.proofs.FramingLaws.{gathered-none}
 use Rattle.release.proofs.StreamLaws.{none-short, state-on}
-use Rattle.release.proofs.FeedLaws.{state-none, answer-is}
+use Rattle.release.proofs.FeedLaws.{state-none}
 use Rattle.release.proofs.FigureLaws.{ended-figures, state-done}
 use Rattle.runner.specs.Calls.{Form}
 use Rattle.recovery.specs.Numbers.{lentRelease, releaseNumbers}
@@ -56,14 +56,10 @@ parts-apart {sheets} (all-whole h) = (_, apart-sheets mostLengths sheets h, refl
 parts-apart {sheets} (one-cut rest h c) = (_, apart-cut mostLengths sheets rest h (cut-first c .0), refl, cut-first c .1)
 parts-apart {sheets} (all-read rest e) = (_, apart-full mostLengths sheets rest e, refl, unfold cuts in refl)
 
-figures-by : (stream : List ℕ) {a : Apart} → apart mostLengths stream ≡ a → figures stream ≡ figuresOf (answersTo (a .sheets)) (cuts (a .cut))
-unfolding figures
-figures-by stream e = ap (λ (a : Apart). figuresOf (answersTo (a .sheets)) (cuts (a .cut))) e
-
 by-parts : {sheets : List (List ℕ)} {rest : List ℕ} {cut : ℕ} → Parts sheets rest cut → figures (framed sheets ++ rest) ≡ figuresOf (answersTo sheets) cut
 by-parts parts =
     let p = parts-apart parts in
-    figures-by _ (p .1) ∙ (λ i. figuresOf (answersTo (p .2 i)) (p .3 i))
+    figures-by _ _ (p .1) ∙ (λ i. figuresOf (answersTo (p .2 i)) (p .3 i))
 
 begun-parts : {sheets : List (List ℕ)} {rest : List ℕ} {cut : ℕ} → Parts sheets rest cut → lengthsBegun (framed sheets ++ rest) ≡ length sheets + cut
 unfolding lengthsBegun
@@ -112,11 +108,11 @@ long-sheet high low bytes long within = go (ltb (length bytes) n) refl
     go : (t : Bool) → ltb (length bytes) n ≡ t → figures (high ∷ low ∷ bytes) ≡ oneRefused
     go true t =
         let c = sheet-cut high low bytes (ltb-true (length bytes) n t) in
-        figures-by (high ∷ low ∷ bytes) (apart-none 65534 (high ∷ low ∷ bytes) (cut-first c .0)) ∙ ap (figuresOf (answersTo [])) (cut-first c .1) ∙ unfold answersTo figuresOf in refl
+        figures-by (high ∷ low ∷ bytes) _ (apart-none 65534 (high ∷ low ∷ bytes) (cut-first c .0)) ∙ ap (figuresOf (answersTo [])) (cut-first c .1) ∙ unfold answersTo figuresOf in refl
     go false t =
         let all : length bytes ≡ n = let h = ltb-false (length bytes) n t in omega (arith, h, within) in
         let one : first (high ∷ low ∷ bytes) ≡ whole bytes [] = one-whole high low bytes all in
-        figures-by (high ∷ low ∷ bytes) (apart-whole 65534 (high ∷ low ∷ bytes) bytes [] one)
+        figures-by (high ∷ low ∷ bytes) _ (apart-whole 65534 (high ∷ low ∷ bytes) bytes [] one)
         ∙ (λ i. figuresOf (answersTo (bytes ∷ apart-empty 65534 i .sheets)) (cuts (apart-empty 65534 i .cut)))
         ∙ one-long bytes (omega (arith, all, long))
 

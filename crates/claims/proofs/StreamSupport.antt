@@ -1,5 +1,5 @@
 -- There are the calls that feed a stream of bytes in any pieces and give its figures, and those that answer for any sheets. Assumes nothing.
-use Prim.Native.Nat.{ℕ, zero, suc, _+_, _-_, _^_, _<_}
+use Prim.Native.Nat.{ℕ, _-_, _^_, _<_}
 use native.Mathlib.Omega.{arith}
 use mathlib.Core.Path.{refl, sym, subst}
 use mathlib.Core.Logic.{∥∥₁-prop, ∥∥₁-elim, ∥∥₁-map}
@@ -10,6 +10,7 @@ use prog.Wp.{Heap}
 use prog.Model.{Model}
 use contract.Running.{GhostRules}
 use Rattle.lists.specs.Lists.{AllUnder}
+use Rattle.lists.proofs.ListLaws.{number-at}
 use Rattle.format.specs.Syntax.{Sheet}
 use Rattle.format.specs.Format.{Answer, gives, refused, givenOr, reading}
 use Rattle.semantics.specs.Verdict.{Verdict, longestTrace}
@@ -52,12 +53,6 @@ numbers-fit s f = record {
 }
 
 -- The state that memory of these sizes holds.
-number-at : (xs : List ℕ) (i bound : ℕ) → 0 < bound → AllUnder bound xs → getD xs i 0 < bound
-unfolding AllUnder
-number-at [] i bound h u = h
-number-at (x ∷ xs) zero bound h u = u .0
-number-at (x ∷ xs) (suc i) bound h u = number-at xs i bound h (u .1)
-
 lent-fits : (numbers begun : List ℕ) → Numbers 64 stateWidth numbers → Numbers 8 mostBegun begun → Fitting (lentRelease numbers begun)
 unfolding lentRelease
 lent-fits numbers begun n b =

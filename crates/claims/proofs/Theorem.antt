@@ -22,6 +22,7 @@ use Rattle.claims.proofs.Demand2Laws.{demand2}
 use Rattle.claims.proofs.Demand3Laws.{demand3}
 use Rattle.claims.proofs.ConstraintLaws.{constraint}
 use Rattle.claims.proofs.ReleaseLaws.{release}
+use Rattle.claims.proofs.PassLaws.{pass}
 
 module _ {M : Type 1} (𝓤 : URA M) (H : Heap 𝓤) (𝓜 : Model 𝓤 H) (𝓖 : GhostRules 𝓤 H) where
   abbrev library : Library {1}
@@ -35,6 +36,7 @@ module _ {M : Type 1} (𝓤 : URA M) (H : Heap 𝓤) (𝓜 : Model 𝓤 H) (𝓖
     prepare-contract = functions.prepare-fixed 𝓤 H 𝓜 𝓖;
     prepare-sized = functions.prepare-sized 𝓤 H 𝓜 𝓖;
     step-contract = functions.step-fixed 𝓤 H 𝓜 𝓖;
+    pass-contract = functions.pass-fixed 𝓤 H 𝓜 𝓖;
     settle-contract = functions.settle-fixed 𝓤 H 𝓜 𝓖;
     know-contract = functions.know-fixed 𝓤 H 𝓜 𝓖;
     runner-contracts = runs.runner-contracts 𝓤 H 𝓜 𝓖;
@@ -58,6 +60,7 @@ module _ {M : Type 1} (𝓤 : URA M) (H : Heap 𝓤) (𝓜 : Model 𝓤 H) (𝓖
     print-ends = functions.print-ends 𝓤 H 𝓜 𝓖;
     prepare-ends = functions.prepare-ends 𝓤 H 𝓜 𝓖;
     step-ends = functions.step-ends 𝓤 H 𝓜 𝓖;
+    pass-ends = functions.pass-ends 𝓤 H 𝓜 𝓖;
     settle-ends = functions.settle-ends 𝓤 H 𝓜 𝓖;
     know-ends = functions.know-ends 𝓤 H 𝓜 𝓖;
     load-ends = functions.load-ends 𝓤 H 𝓜 𝓖;
@@ -72,6 +75,7 @@ module _ {M : Type 1} (𝓤 : URA M) (H : Heap 𝓤) (𝓜 : Model 𝓤 H) (𝓖
     print-fixed = functions.print-fixed 𝓤 H 𝓜 𝓖;
     prepare-fixed = functions.prepare-fixed 𝓤 H 𝓜 𝓖;
     step-fixed = functions.step-fixed 𝓤 H 𝓜 𝓖;
+    pass-fixed = functions.pass-fixed 𝓤 H 𝓜 𝓖;
     settle-fixed = functions.settle-fixed 𝓤 H 𝓜 𝓖;
     know-fixed = functions.know-fixed 𝓤 H 𝓜 𝓖;
     load-fixed = functions.load-fixed 𝓤 H 𝓜 𝓖;
@@ -96,10 +100,12 @@ module _ {M : Type 1} (𝓤 : URA M) (H : Heap 𝓤) (𝓜 : Model 𝓤 H) (𝓖
     can-print = supports.can-print 𝓤 H 𝓜 𝓖;
     can-prepare = supports.can-prepare 𝓤 H 𝓜 𝓖;
     can-step = supports.can-step 𝓤 H 𝓜 𝓖;
+    can-pass = supports.can-pass 𝓤 H 𝓜 𝓖;
     can-settle = supports.can-settle 𝓤 H 𝓜 𝓖;
     can-know = supports.can-know 𝓤 H 𝓜 𝓖;
     prepared-fit = supports.prepared-fit 𝓤 H 𝓜 𝓖;
     stepped-fit = supports.stepped-fit 𝓤 H 𝓜 𝓖;
+    passed-fit = supports.passed-fit 𝓤 H 𝓜 𝓖;
     settled-fit = supports.settled-fit 𝓤 H 𝓜 𝓖;
     can-load = supports.can-load 𝓤 H 𝓜 𝓖;
     can-next = supports.can-next 𝓤 H 𝓜 𝓖;
@@ -123,6 +129,7 @@ demands M 𝓤 H 𝓜 𝓖 = record {
   demand3 = demand3 (linked 𝓤 H 𝓜) (contracts 𝓤 H 𝓜 𝓖);
   constraint = constraint (linked 𝓤 H 𝓜) (contracts 𝓤 H 𝓜 𝓖);
   release = release (linked 𝓤 H 𝓜) (contracts 𝓤 H 𝓜 𝓖);
+  pass = pass (linked 𝓤 H 𝓜) (contracts 𝓤 H 𝓜 𝓖);
   support = support 𝓤 H 𝓜 𝓖;
 }
 

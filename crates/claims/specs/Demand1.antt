@@ -13,11 +13,12 @@ use Rattle.progression.specs.Machine.{stepped, settled, knownBy}
 use Rattle.runner.specs.Records.{zeros}
 use Rattle.runner.specs.Calls.{Form}
 use Rattle.claims.specs.Library.{Library, Gave, EveryCallEnds, ToVerify, AfterVerify, ToCheck, AfterCheck, ToPrint, AfterPrint}
-use Rattle.claims.specs.Library.{ToPrepare, AfterPrepare, ToStep, ToSettle, ToKnow}
+use Rattle.claims.specs.Library.{ToPrepare, AfterPrepare, ToStep, ToPass, AfterPass, ToSettle, ToKnow}
 use Rattle.claims.specs.Library.{ToLoad, AfterLoad, ToNext, AfterNext, ToReport, AfterReport}
 use Rattle.claims.specs.Library.{ToFeed, AfterFeed, ToFinish, ToLine}
 use Rattle.claims.specs.Terms.{OnlyOldBytes, FailingTrace, AsBefore}
-use Rattle.claims.specs.Terms.{verifiedAs, checkedAs, printedAs, preparedAs, loadedAs, toldAs, reportedAs, fedAs, finishedAs, lineAs}
+use Rattle.claims.specs.Terms.{verifiedAs, checkedAs, printedAs, preparedAs, passedAs, loadedAs, toldAs, reportedAs}
+use Rattle.claims.specs.Terms.{fedAs, finishedAs, lineAs}
 
 module _ {ℓ} (library : Library {ℓ}) where
   pub record Demand1 : Type ℓ where
@@ -36,6 +37,7 @@ module _ {ℓ} (library : Library {ℓ}) where
     pub print-ends : EveryCallEnds (library .print)
     pub prepare-ends : EveryCallEnds (library .prepare)
     pub step-ends : EveryCallEnds (library .step)
+    pub pass-ends : EveryCallEnds (library .pass)
     pub settle-ends : EveryCallEnds (library .settle)
     pub know-ends : EveryCallEnds (library .know)
     pub load-ends : (form : Form) → EveryCallEnds (library .load form)
@@ -52,6 +54,7 @@ module _ {ℓ} (library : Library {ℓ}) where
     pub prepare-fixed : (x : ToPrepare) (y : AfterPrepare) → Gave (library .prepare) x y → y ≡ preparedAs x
     pub step-fixed : (x : ToStep) (set : List ℕ) → Gave (library .step) x set
         → set ≡ words (stepped (x .tables .heads) (x .tables .sets) (ofWords (x .set)) (x .action) (x .reply))
+    pub pass-fixed : (x : ToPass) (y : AfterPass) → Gave (library .pass) x y → y ≡ passedAs x
     pub settle-fixed : (x : ToSettle) (stop : Stop) → Gave (library .settle) x stop
         → stop ≡ settled (x .tables .nodes) (x .tables .sets) (ofWords (x .set)) (x .at)
     pub know-fixed : (x : ToKnow) (b : Bool) → Gave (library .know) x b → b ≡ knownBy (x .tables .sets) (ofWords (x .set)) (x .formula)

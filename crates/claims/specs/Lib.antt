@@ -6,5 +6,6 @@ pub mod Demand2
 pub mod Demand3
 pub mod Constraint
 pub mod Release
+pub mod Pass
 pub mod Support
 pub mod Theorem

@@ -78,6 +78,19 @@ pub record ToStep : Type 0 where
   pub action : ℕ
   pub reply : ℕ
 
+-- A set, a reply to an action, and memory for one number, how often the reply was evaluated.
+pub record ToPass : Type 0 where
+  pub tables : Tables
+  pub set : List ℕ
+  pub action : ℕ
+  pub reply : ℕ
+  pub evaluations : List ℕ
+
+pub record AfterPass : Type 0 where
+  pub possible : Bool
+  pub kept : List ℕ
+  pub evaluations : ℕ
+
 pub record ToSettle : Type 0 where
   pub tables : Tables
   pub set : List ℕ
@@ -153,6 +166,7 @@ pub record Library {ℓ} : Type (ℓ + 1) where
   pub print : Function {ℓ} ToPrint AfterPrint
   pub prepare : Function {ℓ} ToPrepare AfterPrepare
   pub step : Function {ℓ} ToStep (List ℕ)
+  pub pass : Function {ℓ} ToPass AfterPass
   pub settle : Function {ℓ} ToSettle Stop
   pub know : Function {ℓ} ToKnow Bool
   pub load : Form → Function {ℓ} ToLoad AfterLoad

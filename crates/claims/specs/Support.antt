@@ -11,10 +11,10 @@ use Rattle.progression.specs.declared.place.Place.{Place as Stop}
 use Rattle.runner.specs.declared.calls.Record.{Record}
 use Rattle.runner.specs.Calls.{Form, Call, answersOn, Event, AllCallsFit, Calls}
 use Rattle.recovery.specs.Arguments.{Tables, setWidth, headsWidth, nodesWidth, setsWidth, memoWidth, verdictWidth, toldWidth}
-use Rattle.recovery.specs.Arguments.{stateWidth, figuresWidth}
+use Rattle.recovery.specs.Arguments.{evaluationsWidth, stateWidth, figuresWidth}
 use Rattle.release.specs.Framing.{mostBegun}
 use Rattle.claims.specs.Library.{Library, Gave, CanBeCalled}
-use Rattle.claims.specs.Library.{ToVerify, ToPrepare, AfterPrepare, ToStep, ToSettle, ToFeed, AfterFeed}
+use Rattle.claims.specs.Library.{ToVerify, ToPrepare, AfterPrepare, ToStep, ToPass, AfterPass, ToSettle, ToFeed, AfterFeed}
 use Rattle.claims.specs.Release.{Figured, Answered}
 
 -- Numbers of so many bits, and how many; bytes of a slice.
@@ -62,6 +62,9 @@ module _ {ℓ} (library : Library {ℓ}) where
     pub can-print : CanBeCalled (library .print) (λ x. Bytes (x .sheet) × Numbers 8 mostLines (x .out))
     pub can-prepare : CanBeCalled (library .prepare) (λ x. Bytes (x .sheet) × TablesFit (x .tables) × SetFits (x .start))
     pub can-step : CanBeCalled (library .step) (λ x. TablesFit (x .tables) × SetFits (x .set) × (x .action < 2 ^ 64) × (x .reply < 2 ^ 64))
+    pub can-pass : CanBeCalled (library .pass)
+        (λ x. TablesFit (x .tables) × SetFits (x .set) × (x .action < 2 ^ 64) × (x .reply < 2 ^ 64)
+        × Numbers 64 evaluationsWidth (x .evaluations))
     pub can-settle : CanBeCalled (library .settle) (λ x. TablesFit (x .tables) × SetFits (x .set) × (x .at < 2 ^ 64))
     pub can-know : CanBeCalled (library .know) (λ x. TablesFit (x .tables) × SetFits (x .set) × (x .formula < 2 ^ 64))
     pub can-load : (form : Form) → CanBeCalled (library .load form) (λ x. Bytes (x .sheet) × RecordFits (x .kept) × TablesFit (x .tables))
@@ -79,6 +82,8 @@ module _ {ℓ} (library : Library {ℓ}) where
     pub prepared-fit : (x : ToPrepare) (y : AfterPrepare) → Gave (library .prepare) x y → TablesFit (x .tables) → SetFits (x .start)
         → TablesFit (y .tables) × SetFits (y .start)
     pub stepped-fit : (x : ToStep) (set : List ℕ) → Gave (library .step) x set → SetFits set
+    pub passed-fit : (x : ToPass) (y : AfterPass) → Gave (library .pass) x y
+        → SetFits (y .kept) × Numbers 64 evaluationsWidth (y .evaluations ∷ [])
     pub settled-fit : (x : ToSettle) (node a : ℕ) → Gave (library .settle) x (Stop.Act node a) → (node + 1 < 2 ^ 64) × (a < 2 ^ 64)
     pub fed-fit : (x : ToFeed) (y : AfterFeed) → Gave (library .feed) x y → Bytes (x .piece) → Numbers 64 stateWidth (x .numbers)
         → Numbers 8 mostBegun (x .begun) → TablesFit (x .tables) → Numbers 64 memoWidth (x .memo)

@@ -8,6 +8,7 @@ use lib.ListN.{length, take, drop}
 use Rattle.lists.specs.Lists.{nonempty, Sorted, write}
 use Rattle.format.specs.Syntax.{Objective, Epistemic, known, not-known, all-of, any-of, Program, end, act, branch, Sheet}
 use Rattle.format.specs.Format.{Answer, gives, reading}
+use Rattle.states.specs.Sets.{words, ofWords}
 use Rattle.reader.specs.Answers.{withoutValue}
 use Rattle.semantics.specs.Runs.{History}
 use Rattle.semantics.specs.Routine.{Following, Failing}
@@ -16,6 +17,7 @@ use Rattle.semantics.specs.Checker.{checked}
 use Rattle.semantics.specs.Printing.{printed, numbersLine}
 use Rattle.semantics.specs.Figures.{figureNumbers}
 use Rattle.verifier.specs.Answers.{cleared}
+use Rattle.progression.specs.Machine.{passedBy}
 use Rattle.runner.specs.Records.{loaded, sheetIn, nextOn, reportOn, recordAfter}
 use Rattle.runner.specs.Calls.{Form, own, lent}
 use Rattle.release.specs.Counting.{meantBy}
@@ -23,6 +25,7 @@ use Rattle.release.specs.Feeding.{fed, isDone, ended, readBy, clearedAll}
 use Rattle.recovery.specs.Numbers.{memoryAfter, startWords, verdictNumbers, toldNumbers, lentRelease, releaseNumbers}
 use Rattle.recovery.specs.Arguments.{Tables, tablesAfter, tablesAfterAll}
 use Rattle.claims.specs.Library.{ToVerify, AfterVerify, ToCheck, AfterCheck, ToPrint, AfterPrint, ToPrepare, AfterPrepare}
+use Rattle.claims.specs.Library.{ToPass, AfterPass}
 use Rattle.claims.specs.Library.{ToLoad, AfterLoad, ToNext, AfterNext, ToReport, AfterReport}
 use Rattle.claims.specs.Library.{ToFeed, AfterFeed, ToFinish, ToLine}
 
@@ -76,6 +79,12 @@ preparedAs x = record {
   tables = tablesAfter (reading (x .sheet)) (x .tables);
   start = memoryAfter startWords (reading (x .sheet)) (x .start);
 }
+
+unfoldable pub passedAs : ToPass → AfterPass
+unfolding passedBy words ofWords
+passedAs x =
+    let passed = passedBy (x .tables .heads) (x .tables .sets) (ofWords (x .set)) (x .action) (x .reply) in
+    record { possible = passed .possible; kept = words (passed .kept); evaluations = passed .evaluations }
 
 unfoldable pub loadedAs : Form → ToLoad → AfterLoad
 unfolding withoutValue reading loaded tablesLeft

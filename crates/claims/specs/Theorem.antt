@@ -12,6 +12,7 @@ use Rattle.claims.specs.Demand2.{Demand2}
 use Rattle.claims.specs.Demand3.{Demand3}
 use Rattle.claims.specs.Constraint.{Constraint}
 use Rattle.claims.specs.Release.{Release}
+use Rattle.claims.specs.Pass.{Pass}
 use Rattle.claims.specs.Support.{Support}
 
 -- "From now on the demands and document 01 are read with what each request adds to sheet, record and numbers."
@@ -21,6 +22,7 @@ pub record Demands {ℓ} (library : Library {ℓ}) : Type ℓ where
   pub demand3 : Demand3 library
   pub constraint : Constraint library
   pub release : Release library
+  pub pass : Pass library
   pub support : Support library
 
 abbrev pub Theorem : Type 2

@@ -5,10 +5,10 @@ use mathlib.Core.List.{List, [], _∷_, _++_, map, flatMap, headD, List·Memᴰ,
 use mathlib.Core.Logic.{_⊎_, inl, inr, ⊎-elim}
 use mathlib.Core.Bool.{Bool, true, false, not, _&&_, _||_}
 use native.Mathlib.Omega.{arith}
-use lib.ListN.{length, getD, drop}
+use lib.ListN.{length, getD, drop, length-append}
 use lib.Seq.{drop-cons}
 use native.Mathlib.Nat.{eq-or-lt-of-le}
-use Rattle.lists.specs.Lists.{if_then_else_, upFrom, every, exists, keep, nonempty}
+use Rattle.lists.specs.Lists.{if_then_else_, upFrom, every, exists, keep, nonempty, AllUnder}
 
 -- A test's two cases.
 pub two-cases : (b : Bool) → (b ≡ true) ⊎ (b ≡ false)
@@ -259,6 +259,42 @@ module _ {A : Type 0} where
   none-append [] ys e = refl
   none-append (x ∷ xs) ys e = not-both refl e
 
+-- What is kept of lists laid end to end, and how many; at most all are. The numbers from a on: how many, and in two parts.
+pub keep-append : {A : Type 0} (test : A → Bool) (xs ys : List A) → keep test (xs ++ ys) ≡ keep test xs ++ keep test ys
+unfolding keep
+keep-append test [] ys = refl
+keep-append {A} test (x ∷ xs) ys = go (test x) (keep-append test xs ys)
+  where
+    go : (b : Bool) → keep test (xs ++ ys) ≡ keep test xs ++ keep test ys
+        → (if b then x ∷ keep test (xs ++ ys) else keep test (xs ++ ys)) ≡ (if b then x ∷ keep test xs else keep test xs) ++ keep test ys
+    go true e = unfold if_then_else_ in (ap (λ (zs : List A). x ∷ zs) e)
+    go false e = unfold if_then_else_ in e
+
+pub kept-length : {A : Type 0} (test : A → Bool) (xs ys : List A) → length (keep test (xs ++ ys)) ≡ length (keep test xs) + length (keep test ys)
+kept-length test xs ys = ap length (keep-append test xs ys) ∙ length-append (keep test xs) (keep test ys)
+
+pub kept-most : {A : Type 0} (test : A → Bool) (xs : List A) → length (keep test xs) ≤ length xs
+unfolding keep
+kept-most test [] = omega arith
+kept-most test (x ∷ xs) = go (test x) (kept-most test xs)
+  where
+    go : (b : Bool) → length (keep test xs) ≤ length xs → length (if b then x ∷ keep test xs else keep test xs) ≤ suc (length xs)
+    go true e = unfold if_then_else_ in (omega (arith, e))
+    go false e = unfold if_then_else_ in (omega (arith, e))
+
+pub upFrom-length : (a k : ℕ) → length (upFrom a k) ≡ k
+unfolding upFrom
+upFrom-length a zero = refl
+upFrom-length a (suc k) = ap suc (upFrom-length (suc a) k)
+
+pub upFrom-append : (a j k : ℕ) → upFrom a (j + k) ≡ upFrom a j ++ upFrom (a + j) k
+unfolding upFrom
+upFrom-append a zero k = let e : a + 0 ≡ a = omega arith in let z : 0 + k ≡ k = omega arith in rw (e, z)
+upFrom-append a (suc j) k =
+    let e : suc j + k ≡ suc (j + k) = omega arith in
+    let f : suc a + j ≡ a + suc j = omega arith in
+    ap (upFrom a) e ∙ ap (λ (l : List ℕ). a ∷ l) (upFrom-append (suc a) j k ∙ ap (λ (b : ℕ). upFrom (suc a) j ++ upFrom b k) f)
+
 module _ {A B : Type 0} where
   pub some-flat : (f : A → List B) (xs : List A) → nonempty (flatMap f xs) ≡ exists (λ x. nonempty (f x)) xs
   unfolding flatMap exists nonempty
@@ -306,3 +342,10 @@ exists-none test (x ∷ xs) h = rw (h x (List·Memᴰ·head refl), exists-none t
 -- What stands from a place of a list on.
 pub drop-next : (xs : List ℕ) (k : ℕ) → k < length xs → drop k xs ≡ getD xs k 0 ∷ drop (k + 1) xs
 drop-next xs k l = let e : suc k ≡ k + 1 = omega arith in drop-cons xs k 0 l ∙ ap (λ (v : ℕ). getD xs k 0 ∷ drop v xs) e
+
+-- A number of a list whose numbers are all below a bound; past its end 0.
+pub number-at : (xs : List ℕ) (i bound : ℕ) → 0 < bound → AllUnder bound xs → getD xs i 0 < bound
+unfolding AllUnder
+number-at [] i bound h u = h
+number-at (x ∷ xs) zero bound h u = u .0
+number-at (x ∷ xs) (suc i) bound h u = number-at xs i bound h (u .1)

@@ -17,20 +17,15 @@ use borrow.Author.Tests.{not-false}
 use Rattle.libc.specs.Io.{Moved}
 use Rattle.lists.proofs.ListLaws.{not-both}
 use Rattle.lists.proofs.SignedLaws.{held, held-same, held-below}
-use Rattle.format.specs.Syntax.{Sheet}
-use Rattle.format.specs.Format.{Answer}
 use Rattle.lists.specs.Lists.{write}
 use Rattle.semantics.specs.Printing.{numbersLine, mostLines}
 use Rattle.semantics.specs.Figures as meaning
 use Rattle.semantics.specs.Figures.{figureNumbers, figures, figuresLine}
 use Rattle.printing.proofs.LineLaws.{lines-first}
-use Rattle.routine.specs.Memory.{Sized}
-use Rattle.routine.specs.Tables.{sheetHeads, nodeCells, setWords, prepared}
-use Rattle.routine.proofs.FitLaws.{prepared-length}
 use Rattle.release.specs.declared.figures.Figures.{Figures}
 use Rattle.release.specs.declared.feeding.Release.{Release}
 use Rattle.release.specs.Counting.{meantBy}
-use Rattle.release.specs.Feeding.{stateOf, isDone, ended, preparedAll, TablesAfterAll}
+use Rattle.release.specs.Feeding.{stateOf, isDone, ended}
 use Rattle.release.proofs.FigureLaws.{ended-figures}
 use Rattle.planfigures.specs.declared.Ending.{Ending}
 use Rattle.planfigures.specs.declared.Next.{Next}
@@ -107,20 +102,6 @@ piece-followed before after n memory w k = record { within = w; onward = k }
 pub over-followed : (state : Release) (ending : Ending) (memory : List ℕ) → Within (Next.Over ending) (length memory) → Followed state (Next.Over ending) memory state
 unfolding broughtBy
 over-followed state ending memory w = record { within = w; onward = λ stream e. e ∙ ap stateOf (sym (append-nil stream)) }
-
--- Tables keep their lengths whatever is fed.
-all-length : (has : Sheet → List ℕ) (sheets : List (Answer Sheet)) (memory : List ℕ) → length (preparedAll has sheets memory) ≡ length memory
-unfolding preparedAll
-all-length has [] memory = refl
-all-length has (sheet ∷ rest) memory = all-length has rest (prepared has sheet memory) ∙ prepared-length has sheet memory
-
-module _ (sheets : List (Answer Sheet)) (heads nodes sets heads′ nodes′ sets′ : List ℕ) where
-  pub all-sized : TablesAfterAll sheets heads nodes sets heads′ nodes′ sets′ → Sized heads nodes sets → Sized heads′ nodes′ sets′
-  all-sized t s = (
-    ap length (t .0) ∙ all-length sheetHeads sheets heads ∙ s .0,
-    ap length (t .1) ∙ all-length nodeCells sheets nodes ∙ s .1,
-    ap length (t .2) ∙ all-length setWords sheets sets ∙ s .2,
-  )
 
 -- The line for an input: none if it couldn't be read, and else what `print_figures` put.
 pub line-failed : (i : Input) → i .ending ≡ Ending.Failed → [] ≡ lineOf i

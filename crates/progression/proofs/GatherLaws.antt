@@ -2,7 +2,7 @@
 use Prim.Native.Nat.{ℕ, zero, suc, _+_, _-_, _*_, _^_, _≤_, _<_}
 use mathlib.Core.Path.{_≡_, refl, sym, ap, ap₂, _∙_}
 use mathlib.Core.Logic.{⊎-elim}
-use mathlib.Core.List.{List, List·Memᴰ}
+use mathlib.Core.List.{List, [], _∷_, _++_, List·Memᴰ}
 use mathlib.Core.Bool.{Bool, true, false, not, _&&_, _||_}
 use native.Mathlib.Omega.{arith}
 use native.Mathlib.Decide.{ℕ-discrete}
@@ -11,27 +11,23 @@ use lib.Dec.{eqb, ltb}
 use lib.Bits.{bitAnd}
 use lib.Count.{trailingZeros}
 use Rattle.lists.specs.Lists.{if_then_else_, upFrom, below, exists}
-use Rattle.lists.proofs.ListLaws.{or-assoc, or-none, exists-same, same-test, not-both, both-true, and-both, one-true, or-left, or-right, exists-mem, mem-exists, upFrom-mem, mem-upFrom}
+use Rattle.lists.proofs.ListLaws.{or-assoc, or-none, exists-same, same-test, not-both, both-true, and-both, one-true, or-left, or-right, exists-mem, mem-exists, upFrom-mem, mem-upFrom, upFrom-append}
 use Rattle.states.specs.declared.States.{States}
 use Rattle.states.specs.Sets.{bit, word, member, setOf}
 use Rattle.states.proofs.BitLaws.{bit-none, lowest-set, bit-cleared}
 use Rattle.states.proofs.SetLaws.{Fitting, in-word, member-setOf, set-is, set-cong}
 use Rattle.routine.specs.declared.memory.Head.{Head}
 use Rattle.routine.specs.Memory.{setAt, headAt}
-use Rattle.progression.specs.Machine.{gathered, effect, keptBy, stepped}
+use Rattle.progression.specs.Machine.{gathered, effect, replyStates, keptBy, stepped}
 
 -- An element among the numbers from a on is among the first j of them or behind those.
+exists-append : (test : ℕ → Bool) (xs ys : List ℕ) → exists test (xs ++ ys) ≡ (exists test xs || exists test ys)
+unfolding exists
+exists-append test [] ys = refl
+exists-append test (x ∷ xs) ys = ap (λ (b : Bool). test x || b) (exists-append test xs ys) ∙ sym (or-assoc (test x) (exists test xs) (exists test ys))
+
 exists-split : (test : ℕ → Bool) (a j k : ℕ) → exists test (upFrom a (j + k)) ≡ (exists test (upFrom a j) || exists test (upFrom (a + j) k))
-unfolding exists upFrom
-exists-split test a zero k =
-    let e : 0 + k ≡ k = omega arith in
-    let s : a + 0 ≡ a = omega arith in
-    rw (e, s)
-exists-split test a (suc j) k =
-    let e : suc j + k ≡ suc (j + k) = omega arith in
-    let s : suc a + j ≡ a + suc j = omega arith in
-    rw e (ap (λ (b : Bool). test a || b) (exists-split test (suc a) j k ∙ ap (λ (i : ℕ). exists test (upFrom (suc a) j) || exists test (upFrom i k)) s)
-    ∙ sym (or-assoc (test a) (exists test (upFrom (suc a) j)) (exists test (upFrom (a + suc j) k))))
+exists-split test a j k = ap (exists test) (upFrom-append a j k) ∙ exists-append test (upFrom a j) (upFrom (a + j) k)
 
 exists-from : (test : ℕ → Bool) (a j k : ℕ) → exists test (upFrom (a + j) k) ≡ exists (λ b. test (a + b)) (upFrom j k)
 unfolding exists upFrom
@@ -177,50 +173,55 @@ module _ (sets : List ℕ) (head : Head) (set : States) where
   pub effect-none : head .replies ≤ head .rows → set ≡ effect sets head set
   effect-none h = passed (gathered sets (head .rows) set) (le-ltb (head .rows) (head .replies) h) ∙ effect-choice
 
--- The states kept by a reply that the action has, and by one that it hasn't.
-module _ (sets : List ℕ) (head : Head) (set : States) (reply : ℕ) where
-  abbrev kept : States
-  kept = setOf (λ t. member set t && member (setAt sets (head .replies + reply)) t)
+-- The states in which a reply is true that the action has, and one that it hasn't.
+module _ (sets : List ℕ) (head : Head) (reply : ℕ) where
+  table-choice : (if ltb reply (head .count) then setAt sets (head .replies + reply) else setOf (λ t. false)) ≡ replyStates sets head reply
+  unfolding replyStates
+  table-choice = refl
 
-  kept-choice : (if ltb reply (head .count) then kept else setOf (λ t. false)) ≡ keptBy sets head set reply
-  unfolding keptBy
-  kept-choice = refl
+  pub true-nowhere : head .count ≤ reply → setOf (λ t. false) ≡ replyStates sets head reply
+  true-nowhere h = passed (setAt sets (head .replies + reply)) (le-ltb reply (head .count) h) ∙ table-choice
 
-  kept-none : head .count ≤ reply → setOf (λ t. false) ≡ keptBy sets head set reply
-  kept-none h = passed kept (le-ltb reply (head .count) h) ∙ kept-choice
-
-  kept-some : (row : States) → reply < head .count → row ≡ setAt sets (head .replies + reply) → setOf (λ t. member set t && member row t) ≡ keptBy sets head set reply
-  kept-some row h r = ap (λ (x : States). setOf (λ t. member set t && member x t)) r ∙ chosen (setOf (λ t. false)) (lt-ltb reply (head .count) h) ∙ kept-choice
+  pub true-by-table : reply < head .count → setAt sets (head .replies + reply) ≡ replyStates sets head reply
+  true-by-table h = chosen (setOf (λ t. false)) (lt-ltb reply (head .count) h) ∙ table-choice
 
 -- The same by a head that was read.
-module _ (sets : List ℕ) (head at : Head) (is : head ≡ at) (set : States) where
-  pub read-rows : head .rows < head .replies → gathered sets (head .rows) set ≡ effect sets at set
-  read-rows h = effect-rows sets head set h ∙ ap (λ (x : Head). effect sets x set) is
+module _ (sets : List ℕ) (head at : Head) (is : head ≡ at) where
+  pub read-rows : (set : States) → head .rows < head .replies → gathered sets (head .rows) set ≡ effect sets at set
+  read-rows set h = effect-rows sets head set h ∙ ap (λ (x : Head). effect sets x set) is
 
-  pub read-same : head .replies ≤ head .rows → set ≡ effect sets at set
-  read-same h = effect-none sets head set h ∙ ap (λ (x : Head). effect sets x set) is
+  pub read-same : (set : States) → head .replies ≤ head .rows → set ≡ effect sets at set
+  read-same set h = effect-none sets head set h ∙ ap (λ (x : Head). effect sets x set) is
 
   module _ (reply : ℕ) where
-    pub read-none : head .count ≤ reply → setOf (λ t. false) ≡ keptBy sets at set reply
-    read-none h = kept-none sets head set reply h ∙ ap (λ (x : Head). keptBy sets x set reply) is
+    pub read-nowhere : head .count ≤ reply → setOf (λ t. false) ≡ replyStates sets at reply
+    read-nowhere h = true-nowhere sets head reply h ∙ ap (λ (x : Head). replyStates sets x reply) is
 
-    pub read-kept : (row : States) → reply < head .count → row ≡ setAt sets (head .replies + reply) → setOf (λ t. member set t && member row t) ≡ keptBy sets at set reply
-    read-kept row h r = kept-some sets head set reply row h r ∙ ap (λ (x : Head). keptBy sets x set reply) is
+    pub read-table : reply < head .count → setAt sets (head .replies + reply) ≡ replyStates sets at reply
+    read-table h = true-by-table sets head reply h ∙ ap (λ (x : Head). replyStates sets x reply) is
 
 -- A step: the effect, and of its states those that the reply keeps.
-module _ (heads sets : List ℕ) (set : States) (action reply : ℕ) where
-  pub step-halves : (after kept : States) → after ≡ effect sets (headAt heads action) set → kept ≡ keptBy sets (headAt heads action) after reply → kept ≡ stepped heads sets set action reply
-  unfolding stepped
-  step-halves after kept a k = k ∙ ap (λ (x : States). keptBy sets (headAt heads action) x reply) a
+pub step-halves : (heads sets : List ℕ) (set : States) (action reply : ℕ) (after table : States) → after ≡ effect sets (headAt heads action) set
+    → table ≡ replyStates sets (headAt heads action) reply → setOf (λ t. member after t && member table t) ≡ stepped heads sets set action reply
+unfolding stepped keptBy
+step-halves heads sets set action reply after table a t = ap₂ (λ (x y : States). setOf (λ t. member x t && member y t)) a t
 
-  module _ (head : Head) (is : head ≡ headAt heads action) where
-    by-head : keptBy sets head (effect sets head set) reply ≡ stepped heads sets set action reply
-    unfolding stepped
-    by-head = ap (λ (h : Head). keptBy sets h (effect sets h set) reply) is
+-- The same by a head that was read: a reply that the action has, and one that it hasn't.
+module _ (heads sets : List ℕ) (set : States) (action reply : ℕ) (head : Head) (is : head ≡ headAt heads action) where
+  pub step-kept : (after row : States) → reply < head .count → after ≡ effect sets head set → row ≡ setAt sets (head .replies + reply)
+      → setOf (λ t. member after t && member row t) ≡ stepped heads sets set action reply
+  step-kept after row h e r =
+      step-halves heads sets set action reply after row (e ∙ ap (λ (x : Head). effect sets x set) is) (r ∙ read-table sets head (headAt heads action) is reply h)
 
-    pub step-none : head .count ≤ reply → setOf (λ t. false) ≡ stepped heads sets set action reply
-    step-none h = kept-none sets head (effect sets head set) reply h ∙ by-head
+  pub step-none : head .count ≤ reply → setOf (λ t. false) ≡ stepped heads sets set action reply
+  step-none h =
+      set-cong (λ t. false) (λ t. member after t && member (setOf (λ u. false)) t)
+      (λ t l. sym (ap (λ (b : Bool). member after t && b) (member-setOf (λ u. false) t l) ∙ and-false (member after t)))
+      ∙ step-halves heads sets set action reply after (setOf (λ u. false)) refl (read-nowhere sets head (headAt heads action) is reply h)
+    where
+      after : States
+      after = effect sets (headAt heads action) set
 
-    pub step-kept : (after row : States) → reply < head .count → after ≡ effect sets head set → row ≡ setAt sets (head .replies + reply)
-        → setOf (λ t. member after t && member row t) ≡ stepped heads sets set action reply
-    step-kept after row h e r = kept-some sets head after reply row h r ∙ ap (λ (x : States). keptBy sets head x reply) e ∙ by-head
+      and-false : (b : Bool) → (b && false) ≡ false
+      and-false true = refl
+      and-false false = refl

@@ -4,3 +4,4 @@ pub mod PolicyLaws
 pub mod PlaceLaws
 pub mod StepLaws
 pub mod RoutineLaws
+pub mod PassLaws

@@ -8,8 +8,8 @@ use native.Mathlib.Omega.{arith}
 use lib.Dec.{ltb, eqb}
 use lib.ListN.{length, getD}
 use borrow.Author.Tests.{ltb-true, ltb-false, eqb-true, eq-eqb}
-use Rattle.lists.specs.Lists.{if_then_else_, below, exists, keep}
-use Rattle.lists.proofs.ListLaws.{two-cases, same-test, both-true, and-both, exists-mem, mem-exists, upFrom-mem, mem-upFrom, keep-within, made-length, made-get}
+use Rattle.lists.specs.Lists.{below, exists, keep}
+use Rattle.lists.proofs.ListLaws.{two-cases, same-test, is-false, both-true, and-both, exists-mem, mem-exists, upFrom-mem, mem-upFrom, keep-within, made-length, made-get}
 use Rattle.states.specs.declared.States.{States}
 use Rattle.states.specs.Sets.{member, setOf, members}
 use Rattle.states.proofs.SetLaws.{member-setOf, member-above, set-cong, members-setOf}
@@ -20,11 +20,25 @@ use Rattle.semantics.specs.Runs.{Entry, entry, History, step}
 use Rattle.semantics.specs.Progression.{possible, startSet, nextSet, setAfter}
 use Rattle.semantics.proofs.ProgressionLaws.{possible-keep, set-states}
 use Rattle.routine.specs.declared.memory.Head.{Head}
-use Rattle.routine.specs.Memory.{setAt}
+use Rattle.routine.specs.Memory.{setAt, headAt}
 use Rattle.routine.specs.Tables.{rows}
 use Rattle.routine.proofs.TableLaws.{noStates, headOf, firstSet, Tabled, row-is, reply-is}
-use Rattle.progression.specs.Machine.{gathered, effect, keptBy, stepped}
-use Rattle.progression.proofs.GatherLaws.{effect-rows, effect-none}
+use Rattle.progression.specs.Machine.{gathered, effect, replyStates, keptBy, stepped}
+use Rattle.progression.proofs.GatherLaws.{effect-rows, effect-none, true-nowhere, true-by-table}
+
+-- The states in which a reply of an action is true, by its table.
+reply-answered : (space : ℕ → Bool) (sets : List ℕ) (k : ℕ) (x : Action)
+    → ((r : ℕ) → r < replyCount x → setAt sets (k + length (rows space x) + r) ≡ setOf (λ t. replyHolds x r t))
+    → (r : ℕ) → replyStates sets (headOf space k x) r ≡ setOf (λ t. replyHolds x r t)
+reply-answered space sets k x reply r =
+    ⊎-elim (λ (e : ltb r (replyCount x) ≡ true).
+    let l = ltb-true r (replyCount x) e in
+    sym (true-by-table sets (headOf space k x) r l) ∙ reply r l)
+    (λ (e : ltb r (replyCount x) ≡ false).
+    let l = ltb-false r (replyCount x) e in
+    sym (true-nowhere sets (headOf space k x) r l)
+    ∙ set-cong (λ t. false) (λ t. replyHolds x r t) (λ t b. sym (is-false (replyHolds x r t) (λ h. omega (arith, l, reply-exists x r t h)))))
+    (two-cases (ltb r (replyCount x)))
 
 -- Where the sets of an action stand: its rows and its reply tables.
 module _ (sheet : Sheet) (few : sheet .facts ≤ 8) (sets : List ℕ) (k : ℕ) (possible-before : ℕ → Bool) (inside : (s : ℕ) → possible-before s ≡ true → isState sheet s ≡ true) where
@@ -96,42 +110,33 @@ module _ (sheet : Sheet) (few : sheet .facts ≤ 8) (sets : List ℕ) (k : ℕ) 
       let u = both-true (eqb (w .0) t) (replyHolds (probe fs) r t) (v .1) in
       and-both (member (setOf before) t) (replyHolds (probe fs) r t) (member-setOf before t l ∙ ap before (sym (eqb-true (w .0) t (u .0))) ∙ v .0) (u .1)))
 
-  -- A reply that the action doesn't have is true nowhere.
-  after-none : (x : Action) (r t : ℕ) → replyCount x ≤ r → after x r t ≡ false
-  after-none x r t l =
-      ⊎-elim (λ (e : after x r t ≡ true).
-      let b = both-true (space t) (exists (λ s. before s && (moves x s t && replyHolds x r t)) (states sheet)) e in
-      let w = exists-mem (λ s. before s && (moves x s t && replyHolds x r t)) (states sheet) (b .1) in
-      let v = both-true (before (w .0)) (moves x (w .0) t && replyHolds x r t) (w .2) in
-      let u = both-true (moves x (w .0) t) (replyHolds x r t) (v .1) in
-      absurd (omega (arith, l, reply-exists x r t (u .1))))
-      (λ e. e) (two-cases (after x r t))
-
   -- One step of the machine.
   step-answered : (x : Action) → ((j : ℕ) → j < length (rows space x) → setAt sets (k + j) ≡ getD (rows space x) j noStates)
       → ((r : ℕ) → r < replyCount x → setAt sets (k + length (rows space x) + r) ≡ setOf (λ t. replyHolds x r t))
       → (r : ℕ)
-      → keptBy sets (headOf space k x) (effect sets (headOf space k x) (setOf before)) r ≡ setOf (λ t. after x r t)
-  unfolding if_then_else_ keptBy
-  step-answered x row reply r = go (ltb r (replyCount x)) refl
-    where
-      go : (b : Bool) → ltb r (replyCount x) ≡ b
-          → (if b then setOf (λ t. member (effect sets (headOf space k x) (setOf before)) t && member (setAt sets (k + length (rows space x) + r)) t) else setOf (λ t. false)) ≡ setOf (λ t. after x r t)
-      go true e =
-          set-cong _ _ (λ t l.
-          ap (λ (b : Bool). member (effect sets (headOf space k x) (setOf before)) t && b)
-          (ap (λ (u : States). member u t) (reply r (ltb-true r (replyCount x) e)) ∙ member-setOf (λ u. replyHolds x r u) t l)
-          ∙ effect-answered x row r t l)
-      go false e = set-cong _ _ (λ t l. sym (after-none x r t (ltb-false r (replyCount x) e)))
+      → keptBy (effect sets (headOf space k x) (setOf before)) (replyStates sets (headOf space k x) r) ≡ setOf (λ t. after x r t)
+  unfolding keptBy
+  step-answered x row reply r =
+      set-cong _ _ (λ t l.
+      ap (λ (b : Bool). member (effect sets (headOf space k x) (setOf before)) t && b)
+      (ap (λ (u : States). member u t) (reply-answered space sets k x reply r) ∙ member-setOf (λ u. replyHolds x r u) t l)
+      ∙ effect-answered x row r t l)
 
 -- A step on the tables of a sheet leads from the states possible before to those possible after the action and its reply.
 pub tabled-step : (sheet : Sheet) → sheet .facts ≤ 8 → (heads nodes sets : List ℕ) → Tabled sheet heads nodes sets → (from : ℕ → Bool) → ((s : ℕ) → from s ≡ true → isState sheet s ≡ true)
     → (a : ℕ) → a < length (sheet .actions) → (r : ℕ) → stepped heads sets (setOf from) a r ≡ setOf (nextSet sheet from (entry a r))
 unfolding stepped nextSet step allowed
 tabled-step sheet few heads nodes sets tabled from inside a l r =
-    ap (λ (x : Head). keptBy sets x (effect sets x (setOf from)) r) (tabled .head-is a l)
+    ap (λ (x : Head). keptBy (effect sets x (setOf from)) (replyStates sets x r)) (tabled .head-is a l)
     ∙ step-answered sheet few sets (firstSet (isState sheet) (sheet .actions) a) from inside (actionOf sheet a) (row-is sheet heads nodes sets tabled a l)
     (reply-is sheet heads nodes sets tabled a l) r
+
+-- The states in which a reply of an action is true, by the tables of a sheet.
+pub tabled-reply : (sheet : Sheet) (heads nodes sets : List ℕ) → Tabled sheet heads nodes sets → (a : ℕ) → a < length (sheet .actions) → (r : ℕ)
+    → replyStates sets (headAt heads a) r ≡ setOf (λ t. replyHolds (actionOf sheet a) r t)
+tabled-reply sheet heads nodes sets tabled a l r =
+    ap (λ (x : Head). replyStates sets x r) (tabled .head-is a l)
+    ∙ reply-answered (isState sheet) sets (firstSet (isState sheet) (sheet .actions) a) (actionOf sheet a) (reply-is sheet heads nodes sets tabled a l) r
 
 module _ (sheet : Sheet) (few : sheet .facts ≤ 8) where
   -- A test that only states pass, as a set: whether any number is in it.

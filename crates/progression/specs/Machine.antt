@@ -1,9 +1,10 @@
--- The tables as a machine, whatever numbers are in the memory: where the program settles, and one step of the set of possible states.
+-- The tables as a machine, whatever numbers are in the memory: where the program settles, one step of the set of possible states, and one pass over it when a reply comes in.
 use Prim.Native.Nat.{ℕ, zero, suc, _+_, _-_, _<_, min}
 use mathlib.Core.Path.{_≡_, refl}
 use mathlib.Core.List.{List, [], _∷_}
 use mathlib.Core.Bool.{Bool, true, false, not, _&&_, _||_, Bool·beq}
 use lib.Dec.{ltb}
+use lib.ListN.{length}
 use Rattle.lists.specs.Lists.{if_then_else_, upFrom, below, every, exists}
 use Rattle.states.specs.declared.States.{States}
 use Rattle.states.specs.Sets.{member, setOf, members}
@@ -15,6 +16,7 @@ use Rattle.routine.specs.declared.memory.Head.{Head}
 use Rattle.routine.specs.Memory.{nodeMost, setAt, nodeAt, headAt}
 use Rattle.routine.specs.Tables.{goalNode, sheetHeads, nodeCells, setWords, low}
 use Rattle.progression.specs.declared.place.Place.{Place}
+use Rattle.progression.specs.declared.reply.Passed.{Passed}
 
 -- What a place means: "the action to do, or that the routine is at its end and whether the goal holds". (Its node says where the program goes on.)
 unfoldable pub placeOf : Place → Told
@@ -116,16 +118,31 @@ unfoldable pub effect : (sets : List ℕ) → Head → States → States
 unfolding if_then_else_ gathered
 effect sets head set = if ltb (head .rows) (head .replies) then gathered sets (head .rows) set else set
 
--- The states of a set that are kept by a reply of an action: those in which it is true. (2013: the states where the reply holds are kept.) A reply that the action hasn't keeps none.
-unfoldable pub keptBy : (sets : List ℕ) → Head → States → (reply : ℕ) → States
-unfolding if_then_else_ setOf member setAt
-keptBy sets head set reply =
-    if ltb reply (head .count) then setOf (λ t. member set t && member (setAt sets (head .replies + reply)) t) else setOf (λ t. false)
+-- The states in which a reply of an action is true, by its table. A reply that the action hasn't is true in none.
+unfoldable pub replyStates : (sets : List ℕ) → Head → (reply : ℕ) → States
+unfolding if_then_else_ setOf setAt
+replyStates sets head reply = if ltb reply (head .count) then setAt sets (head .replies + reply) else setOf (λ t. false)
+
+-- The states of a set that are kept by a reply: those in which it is true. (2013: the states where the reply holds are kept.)
+unfoldable pub keptBy : (set reply : States) → States
+unfolding setOf member
+keptBy set reply = setOf (λ t. member set t && member reply t)
 
 -- The states possible after an action and its reply: first the effect, then the reply.
 unfoldable pub stepped : (heads sets : List ℕ) → States → (action reply : ℕ) → States
-unfolding keptBy effect headAt
-stepped heads sets set action reply = keptBy sets (headAt heads action) (effect sets (headAt heads action) set) reply
+unfolding keptBy effect replyStates headAt
+stepped heads sets set action reply = keptBy (effect sets (headAt heads action) set) (replyStates sets (headAt heads action) reply)
+
+-- Document 02, "One pass when a reply comes in", over the states of a set: "the states kept are exactly those of the set in which the reply is true; it is impossible exactly
+-- when there is none; and the pass answers how often it evaluated the reply, which is once for each state of the set."
+unfoldable pub passedOver : (set reply : States) → Passed
+unfolding keptBy exists member members
+passedOver set reply = record { kept = keptBy set reply; possible = exists (member reply) (members set); evaluations = length (members set) }
+
+-- The same for a reply of an action.
+unfoldable pub passedBy : (heads sets : List ℕ) → States → (action reply : ℕ) → Passed
+unfolding passedOver replyStates headAt
+passedBy heads sets set action reply = passedOver set (replyStates sets (headAt heads action) reply)
 
 -- Examples, evaluated.
 -- One fact. Action 0 may change it, action 1 asks for it. If it is known, do action 0, else action 1, and then action 1 again. The goal: it is known.
@@ -216,3 +233,29 @@ reply-kept = refl
 no-such-reply : stepped (sheetHeads small) (setWords small) (low 3) 1 2 ≡ low 0
 unfolding small sheetHeads stepped setWords
 no-such-reply = refl
+
+-- One pass: of both states the reply "the fact is true" keeps one, after two evaluations, the other reply the other, and a change's reply both; of the state that denies it
+-- the first keeps none, after one; of no state none, after none. Nor is a reply possible that the action doesn't have.
+one-kept : passedBy (sheetHeads small) (setWords small) (low 3) 1 0 ≡ record { kept = low 2; possible = true; evaluations = 2 }
+unfolding small sheetHeads passedBy setWords
+one-kept = refl
+
+other-kept : passedBy (sheetHeads small) (setWords small) (low 3) 1 1 ≡ record { kept = low 1; possible = true; evaluations = 2 }
+unfolding small sheetHeads passedBy setWords
+other-kept = refl
+
+both-kept : passedBy (sheetHeads small) (setWords small) (low 3) 0 0 ≡ record { kept = low 3; possible = true; evaluations = 2 }
+unfolding small sheetHeads passedBy setWords
+both-kept = refl
+
+none-kept : passedBy (sheetHeads small) (setWords small) (low 1) 1 0 ≡ record { kept = low 0; possible = false; evaluations = 1 }
+unfolding small sheetHeads passedBy setWords
+none-kept = refl
+
+none-there : passedBy (sheetHeads small) (setWords small) (low 0) 1 0 ≡ record { kept = low 0; possible = false; evaluations = 0 }
+unfolding small sheetHeads passedBy setWords
+none-there = refl
+
+no-reply-kept : passedBy (sheetHeads small) (setWords small) (low 3) 1 2 ≡ record { kept = low 0; possible = false; evaluations = 2 }
+unfolding small sheetHeads passedBy setWords
+no-reply-kept = refl

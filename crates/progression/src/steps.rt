@@ -10,7 +10,7 @@ ghost use Prim.Native.Nat.{_+_, _<_};
 ghost use Rattle.lists.specs.Lists.{exists, below};
 ghost use Rattle.states.specs.Sets.{bit, member, setOf};
 ghost use Rattle.routine.specs.Memory.{setAt, headAt};
-ghost use Rattle.progression.specs.Machine.{gathered, effect as effectOf, keptBy, stepped};
+ghost use Rattle.progression.specs.Machine.{gathered, effect as effectOf, replyStates, stepped};
 
 // The states that are in set `first` + b for some bit b of a word. (The bound keeps the sum from overflowing.)
 fn gather_word(sets: &[u64; SET_WORDS], first: usize, word: u64) -> States
@@ -55,21 +55,20 @@ pub fn effect(
     set
 }
 
-// The states of a set in which a reply of an action is true.
-pub fn keep(
+// The states in which a reply of an action is true; of a reply that the action hasn't, none.
+pub(crate) fn reply_states(
     heads: &[u16; HEAD_CELLS],
     sets: &[u64; SET_WORDS],
-    set: States,
     action: usize,
     reply: usize,
 ) -> States
-    ensures { λ r. ⌜ r ≡ keptBy (now (sets .entry)) (headAt (now (heads .entry)) action) set reply ⌝ }
+    ensures { λ r. ⌜ r ≡ replyStates (now (sets .entry)) (headAt (now (heads .entry)) action) reply ⌝ }
 {
     let head = head_at(heads, action);
     if head.count <= reply {
         return States::empty();
     }
-    set.intersect(set_at(sets, head.replies + reply))
+    set_at(sets, head.replies + reply)
 }
 
 // The states possible after an action and its reply, from those possible before: first the effect, then the reply.
@@ -83,5 +82,5 @@ pub fn step(
     ensures { λ r. ⌜ r ≡ stepped (now (heads .entry)) (now (sets .entry)) set action reply ⌝ }
 {
     let after = effect(heads, sets, set, action);
-    keep(heads, sets, after, action, reply)
+    after.intersect(reply_states(heads, sets, action, reply))
 }

@@ -24,7 +24,7 @@ use Rattle.semantics.specs.Verdict.{admitted, verified}
 use Rattle.semantics.specs.Checker.{checked}
 use Rattle.semantics.specs.Printing.{mostLines, printed, numbersLine}
 use Rattle.semantics.specs.Figures.{figureNumbers}
-use Rattle.progression.specs.Machine.{stepped, settled, knownBy, Inside}
+use Rattle.progression.specs.Machine.{stepped, passedBy, settled, knownBy, Inside}
 use Rattle.verifier.specs.Answers.{cleared}
 use Rattle.runner.specs.declared.calls.Record.{Record}
 use Rattle.runner.specs.Records.{loaded, sheetIn, nextOn, reportOn, recordAfter}
@@ -32,7 +32,7 @@ use Rattle.runner.proofs.HeldLaws.{kept-sheet}
 use Rattle.release.specs.Counting.{meantBy}
 use Rattle.release.specs.Feeding.{fed, isDone, ended, readBy, clearedAll}
 use Rattle.recovery.specs.Numbers.{memoryAfter, startWords, placeNumber, flagNumber, verdictNumbers, checkedNumber, lentRecord, lengthsOf, toldNumbers, lentRelease, releaseNumbers}
-use Rattle.recovery.specs.Arguments.{Tables, tablesAfter, bytesAt, recordPieces, lentTables, toRead, toPrepare, toStep, toSettle, toKnow, toVerify, toVerifyIn, toCheck, toCheckIn, toPrint, toLoad, toLoadIn, toNext, toNextIn, toReport, toReportIn, tablesAfterAll, toFeed, toEnd, toLine}
+use Rattle.recovery.specs.Arguments.{Tables, tablesAfter, bytesAt, recordPieces, lentTables, toRead, toPrepare, toStep, toPass, toSettle, toKnow, toVerify, toVerifyIn, toCheck, toCheckIn, toPrint, toLoad, toLoadIn, toNext, toNextIn, toReport, toReportIn, tablesAfterAll, toFeed, toEnd, toLine}
 use Rattle.recovery.proofs.recovery_read as read
 use Rattle.recovery.proofs.recovery_read.Reads as read-reads
 use Rattle.recovery.proofs.recovery_read.Met as read-met
@@ -45,6 +45,10 @@ use Rattle.recovery.proofs.recovery_step as step
 use Rattle.recovery.proofs.recovery_step.Reads as step-reads
 use Rattle.recovery.proofs.recovery_step.Met as step-met
 use Rattle.recovery.proofs.recovery_step.Symbol as step-symbol
+use Rattle.recovery.proofs.recovery_pass as pass
+use Rattle.recovery.proofs.recovery_pass.Reads as pass-reads
+use Rattle.recovery.proofs.recovery_pass.Met as pass-met
+use Rattle.recovery.proofs.recovery_pass.Symbol as pass-symbol
 use Rattle.recovery.proofs.recovery_settle as settle
 use Rattle.recovery.proofs.recovery_settle.Reads as settle-reads
 use Rattle.recovery.proofs.recovery_settle.Met as settle-met
@@ -152,6 +156,19 @@ module _ {M : Type 1} (𝓤 : URA M) (H : Heap 𝓤) (𝓜 : Model 𝓤 H) (𝓖
       (λ q.
       let f = q .7 in
       so 𝓤 H 𝓜 𝓖 step-symbol.routine args σ F (q .1) _ _ _ (q .2) (head-is (q .6)) (λ i. toStep p t (f i) action reply) (q .5, q .8 .0, q .8 .1, q .8 .2))
+
+  pub pass-leaves : (t : Tables) (set : List ℕ) (action reply : ℕ) (evaluations : List ℕ)
+      → Leaves 𝓤 H 𝓜 𝓖 pass-symbol.routine (toPass p t set action reply evaluations) (vint w8 (flagNumber (passedBy (t .heads) (t .sets) (ofWords set) action reply .possible)))
+      (toPass p t (words (passedBy (t .heads) (t .sets) (ofWords set) action reply .kept)) action reply (passedBy (t .heads) (t .sets) (ofWords set) action reply .evaluations ∷ []))
+  unfolding valuesOf valueOf
+  pass-leaves t set action reply evaluations fit σ F s =
+      let args = toPass p t set action reply evaluations in
+      ∥∥₁-map
+      (said 𝓤 H 𝓜 𝓖 pass.signature pass-symbol.routine (pass.spec 𝓤 H (𝓖 .A) (𝓜 .mem) (𝓡 .run)) (pass-met.met 𝓤 H 𝓜 𝓖 𝓡) (pass.ended .kept) args (bound args) (λ ns. tt)
+      (λ ns. pass-reads.Learnt (bound args ns .0) (bound args ns .3)) (λ ns t. id⊢ 𝓤 _) (λ ns. refl) (λ ns. id⊢ 𝓤 _) (λ ns ws. ws) (λ ns ws. id⊢ 𝓤 _) fit σ F s)
+      (λ q.
+      let f = q .7 in
+      so 𝓤 H 𝓜 𝓖 pass-symbol.routine args σ F (q .1) _ _ _ (q .2) (head-is (q .6 .0) ∙ ap (vint w8) (f .0)) (λ i. toPass p t (f .1 i) action reply (f .2 i)) (q .5, q .8 .0, q .8 .1, q .8 .2))
 
   pub settle-leaves : (t : Tables) (set : List ℕ) (at : ℕ)
       → Leaves 𝓤 H 𝓜 𝓖 settle-symbol.routine (toSettle p t set at) (vint w64 (placeNumber (settled (t .nodes) (t .sets) (ofWords set) at))) (toSettle p t set at)

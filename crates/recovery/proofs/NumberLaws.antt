@@ -2,7 +2,7 @@
 use Prim.Native.Nat.{ℕ}
 use mathlib.Core.Path.{_≡_, refl, sym, ap, subst, _∙_}
 use mathlib.Core.List.{List}
-use mathlib.Core.Bool.{Bool, true, false}
+use mathlib.Core.Bool.{Bool}
 use native.Mathlib.Omega.{arith}
 use Rattle.states.specs.declared.States.{States}
 use Rattle.format.specs.Syntax.{Sheet}
@@ -11,7 +11,8 @@ use Rattle.reader.specs.Answers.{withoutValue, numberFor}
 use Rattle.states.specs.Sets.{words, ofWords}
 use Rattle.routine.specs.Tables.{startOf, TablesAfter}
 use Rattle.progression.specs.declared.place.Place.{Place}
-use Rattle.progression.specs.Machine.{stepped, settled, knownBy, Inside}
+use Rattle.progression.specs.declared.reply.Passed.{Passed}
+use Rattle.progression.specs.Machine.{stepped, passedBy, settled, knownBy, Inside}
 use Rattle.semantics.specs.Verdict.{Verdict, Verified}
 use Rattle.verifier.specs.declared.verdict.Verdict.{Verdict as VerdictValue}
 use Rattle.verifier.specs.Answers.{answerOf as verdictOf, verifiedBy}
@@ -49,6 +50,11 @@ tables-ready (refused r) set e memory after h = let w : _≡_ {A = ℕ} 0 1 = cc
 pub step-written : (heads sets memory after : List ℕ) (action reply : ℕ) (before result : States) → before ≡ ofWords memory → result ≡ stepped heads sets before action reply
     → after ≡ words result → after ≡ words (stepped heads sets (ofWords memory) action reply)
 step-written heads sets memory after action reply before result b r w = w ∙ ap words (r ∙ ap (λ (s : States). stepped heads sets s action reply) b)
+
+-- A pass over a set that was lent.
+pub passed-lent : (heads sets memory : List ℕ) (action reply : ℕ) (before : States) (result : Passed) → before ≡ ofWords memory → result ≡ passedBy heads sets before action reply
+    → result ≡ passedBy heads sets (ofWords memory) action reply
+passed-lent heads sets memory action reply before result b r = r ∙ ap (λ (s : States). passedBy heads sets s action reply) b
 
 -- The place where the program settles with a set that was lent.
 pub place-settled : (nodes sets memory : List ℕ) (at : ℕ) (set : States) (place told : Place) → set ≡ ofWords memory → told ≡ settled nodes sets set at → told ≡ place
@@ -109,14 +115,6 @@ report-parts r lent kept reply l e =
     (ap (λ (x : Record). x .replies) after, ap lengthsOf after)
 
 -- The state of a stream that was lent, fed with a piece.
-pub done-flag : (b : Bool) → b ≡ true → 1 ≡ flagNumber b
-unfolding flagNumber
-done-flag b e = ap flagNumber (sym e)
-
-pub more-flag : (b : Bool) → b ≡ false → 0 ≡ flagNumber b
-unfolding flagNumber
-more-flag b e = ap flagNumber (sym e)
-
 pub fed-lent : (state lent after : Release) (piece numbers begun : List ℕ) (r : ℕ) (b : Bool) → state ≡ lent → after ≡ fed state piece → numbers ≡ releaseNumbers after
     → begun ≡ after .begun .bytes → b ≡ isDone after → r ≡ flagNumber b
     → (r ≡ flagNumber (isDone (fed lent piece))) × (numbers ≡ releaseNumbers (fed lent piece)) × (begun ≡ fed lent piece .begun .bytes)

@@ -15,8 +15,8 @@ use Rattle.release.specs.Framing.{mostBegun}
 use Rattle.release.specs.Feeding.{preparedAll}
 use Rattle.recovery.specs.Numbers.{lengthsOf}
 
--- How many numbers there are in the memories of fixed length: a set of states, the tables, the memo, a verdict, a record's lengths, what
--- "Next" tells, six figures, and the numbers of a stream's state.
+-- How many numbers there are in the memories of fixed length: a set of states, the tables, the memo, how often a reply was evaluated, a
+-- verdict, a record's lengths, what "Next" tells, six figures, and the numbers of a stream's state.
 abbrev pub setWidth : ℕ
 setWidth = 4
 
@@ -31,6 +31,9 @@ setsWidth = setWidth * setMost
 
 abbrev pub memoWidth : ℕ
 memoWidth = slotSize * slotMost
+
+abbrev pub evaluationsWidth : ℕ
+evaluationsWidth = 1
 
 abbrev pub verdictWidth : ℕ
 verdictWidth = 3
@@ -121,6 +124,11 @@ module _ (p : ℕ → Place) where
   abbrev pub toStep : Tables → (set : List ℕ) → (action reply : ℕ) → List Argument
   toStep t set action reply =
       headsAt reads (p 0) t ∷ setsAt reads (p 1) t ∷ wordsLent writes (p 2) set ∷ number w64 action ∷ number w64 reply ∷ []
+
+  abbrev pub toPass : Tables → (set : List ℕ) → (action reply : ℕ) → (evaluations : List ℕ) → List Argument
+  toPass t set action reply evaluations =
+      headsAt reads (p 0) t ∷ setsAt reads (p 1) t ∷ wordsLent writes (p 2) set ∷ number w64 action ∷ number w64 reply
+      ∷ memory (array evaluationsWidth) writes w64 (p 3) evaluations ∷ []
 
   abbrev pub toSettle : Tables → (set : List ℕ) → (at : ℕ) → List Argument
   toSettle t set at = nodesAt reads (p 0) t ∷ setsAt reads (p 1) t ∷ wordsLent reads (p 2) set ∷ number w64 at ∷ []

@@ -8,6 +8,7 @@ use printing::print;
 use printing::print_figures;
 use progression::Place;
 use progression::known;
+use progression::pass;
 use progression::settle;
 use progression::step;
 use reader::Acceptance;
@@ -29,6 +30,7 @@ use verifier::Verdict;
 use verifier::verify;
 use verifier::verify_in;
 ghost use mathlib.Core.Path.{_≡_};
+ghost use mathlib.Core.List.{[], _∷_};
 ghost use Prim.Native.Nat.{_≤_};
 ghost use lib.ListN.{length};
 ghost use Rattle.format.specs.Format.{reading};
@@ -40,7 +42,7 @@ ghost use Rattle.states.specs.Sets.{words, ofWords};
 ghost use Rattle.lists.specs.Lists.{write};
 ghost use Rattle.routine.specs.Memory.{Sized};
 ghost use Rattle.routine.specs.Tables.{TablesAfter};
-ghost use Rattle.progression.specs.Machine.{stepped, settled, knownBy, Inside};
+ghost use Rattle.progression.specs.Machine.{stepped, passedBy, settled, knownBy, Inside};
 ghost use Rattle.verifier.specs.Answers.{answerOf as verdictOf, cleared};
 ghost use Rattle.checker.specs.Answers.{answerOf as checkedOf};
 ghost use Rattle.runner.specs.Records.{loaded, sheetIn, nextOn, reportOn, recordAfter};
@@ -105,6 +107,39 @@ pub extern "C" fn recovery_step(
     *set = after.words();
 }
 
+// Yes and no as numbers.
+fn flag(x: bool) -> u8
+    ensures { λ r. ⌜ r ≡ flagNumber x ⌝ }
+{
+    if x {
+        return 1;
+    }
+    0
+}
+
+// One pass over the states of a set when a reply to an action comes in: replaces the set by the states in which the reply is
+// true, writes how often the reply was evaluated, which is once for each state of the set, and gives 1 if the reply is
+// possible, 0 if no state is left. The reply is looked at after the action's effect, so the set is that of the states possible
+// then.
+#[no_mangle]
+pub extern "C" fn recovery_pass(
+    heads: &[u16; HEAD_CELLS],
+    sets: &[u64; SET_WORDS],
+    set: &mut [u64; States::WORDS],
+    action: usize,
+    reply: usize,
+    evaluations: &mut [u64; 1],
+) -> u8
+    ensures { λ r. ⌜ (r ≡ flagNumber (passedBy (now (heads .entry)) (now (sets .entry)) (ofWords (now (set .entry))) action reply .possible)) × (now (set .exit) ≡ words (passedBy (now (heads .entry)) (now (sets .entry)) (ofWords (now (set .entry))) action reply .kept)) × (now (evaluations .exit) ≡ passedBy (now (heads .entry)) (now (sets .entry)) (ofWords (now (set .entry))) action reply .evaluations ∷ []) ⌝ }
+{
+    let before = States::of_words(set);
+    let passed = pass(heads, sets, before, action, reply);
+    let kept = passed.kept;
+    *set = kept.words();
+    *evaluations = [passed.evaluations];
+    flag(passed.possible)
+}
+
 // Where the program settles from node `at` on: 0 for an end at which the goal fails, 1 for an end at which it holds, else
 // 2 + 65536 * node + action; node and action fit 16 bits.
 #[no_mangle]
@@ -131,11 +166,7 @@ pub extern "C" fn recovery_known(
 ) -> u8
     ensures { λ r. ⌜ r ≡ flagNumber (knownBy (now (sets .entry)) (ofWords (now (set .entry))) k) ⌝ }
 {
-    if known(sets, k, States::of_words(set)) {
-        1
-    } else {
-        0
-    }
+    flag(known(sets, k, States::of_words(set)))
 }
 
 // Writes a verdict as three numbers. A refusal leaves the memory as it was.
@@ -481,7 +512,7 @@ pub extern "C" fn recovery_figures_feed(
     let state = lent_release(numbers, begun);
     let after = state.feed(piece, heads, nodes, sets, memo);
     put_release(after, numbers, begun);
-    if after.is_done() { 1 } else { 0 }
+    flag(after.is_done())
 }
 
 // Writes the six figures of a stream that ends where its state stands: what is begun then is cut, and refused.

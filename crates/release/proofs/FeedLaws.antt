@@ -2,17 +2,17 @@
 use Prim.Native.Nat.{ℕ, zero, suc, _+_, _-_, _^_, _≤_, _<_}
 use native.Mathlib.Omega.{arith}
 use mathlib.Core.Path.{_≡_, refl, sym, ap, subst, _∙_}
-use mathlib.Core.Logic.{_⊎_, ⊎-elim}
+use mathlib.Core.Logic.{⊎-elim}
 use mathlib.Core.List.{List, [], _∷_, _++_, append-assoc, append-nil}
 use lib.ListN.{length, take, drop, length-drop, take-append-drop, drop-of-length-le}
 use lib.Seq.{take-nil, drop-drop, length-take-le, getD-take, ext-getD}
 use Rattle.format.specs.Syntax.{Sheet}
-use Rattle.format.specs.Format.{Answer, gives, refused, onAccepted, givenOr, reading}
+use Rattle.format.specs.Format.{Answer, refused, onAccepted, givenOr, reading}
 use Rattle.reader.specs.declared.refusal.Refusal.{Refusal}
 use Rattle.reader.specs.Answers.{numberOf}
 use Rattle.semantics.specs.Verdict.{verdictOf, outcomeOf, LongEnough, admitted, verified}
 use Rattle.semantics.proofs.MemoryLaws.{admitted-long}
-use Rattle.semantics.proofs.FigureLaws.{reading-long}
+use Rattle.semantics.proofs.FigureLaws.{reading-long, answer-is}
 use Rattle.semantics.specs.Figures.{mostLengths, cuts, releaseBudget, answerTo}
 use Rattle.routine.specs.Memory.{Sized}
 use Rattle.routine.specs.Tables.{prepared, sheetHeads, nodeCells, setWords, TablesAfter}
@@ -270,10 +270,6 @@ answered-long bytes heads nodes sets memo all long =
     refused-one : (heads nodes sets memo : List ℕ)
         → (Sized heads nodes sets → answerOf (Verdict.Refused Refusal.Length) ≡ answerTo (refused 1)) × (memo ≡ cleared (refused 1) memo) × TablesAfter (refused 1) heads nodes sets heads nodes sets
     refused-one heads nodes sets memo = unfold answerOf numberOf answerTo verdictOf outcomeOf onAccepted cleared prepared givenOr in (λ z. refl, refl, (refl, refl, refl))
-
-pub answer-is : (sheet old : List ℕ) (a : Answer Sheet) → admitted sheet old ≡ a → verified sheet releaseBudget old .answer ≡ answerTo a
-unfolding verified answerTo
-answer-is sheet old a read = ap (λ (b : Answer Sheet). verdictOf (outcomeOf b releaseBudget)) read
 
 pub answered-verified : (bytes sheet old : List ℕ) (r : Verdict) (trace heads nodes sets memo heads′ nodes′ sets′ memo′ : List ℕ) → sheet ≡ drop 2 bytes → LongEnough old
     → (Sized heads nodes sets → verifiedBy r trace ≡ verified sheet releaseBudget old) → memo′ ≡ cleared (admitted sheet old) memo

@@ -1,30 +1,29 @@
 -- The state of a stream of bytes fits its memory: numbers of 64 bits, and bytes. Assumes nothing.
 use Prim.Native.Nat.{ℕ, zero, suc, _+_, _*_, _-_, _^_, _≤_, _<_}
 use native.Mathlib.Omega.{arith}
-use mathlib.Core.Path.{_≡_, refl}
+use mathlib.Core.Path.{_≡_, refl, ap, _∙_}
 use mathlib.Core.Bool.{Bool, true, false}
 use mathlib.Core.List.{List, [], _∷_, _++_, map}
 use lib.ListN.{length, getD, take}
 use lib.Dec.{ltb}
 use Rattle.lists.specs.Lists.{if_then_else_, upFrom, AllUnder}
-use Rattle.format.specs.Format.{reading}
+use Rattle.lists.proofs.ListLaws.{number-at}
+use Rattle.format.specs.Syntax.{Sheet}
+use Rattle.format.specs.Format.{Answer, reading}
 use Rattle.semantics.specs.Figures.{apart, mostLengths, answerTo, answersTo, greater}
 use Rattle.semantics.proofs.FigureLaws.{cut-none, sheets-most, cut-bytes, length-most}
+use Rattle.routine.specs.Memory.{Sized}
+use Rattle.routine.specs.Tables.{sheetHeads, nodeCells, setWords, prepared}
+use Rattle.routine.proofs.FitLaws.{prepared-length}
 use Rattle.release.specs.declared.figures.Figures.{Figures}
 use Rattle.release.specs.declared.feeding.Release.{Release}
 use Rattle.release.specs.Counting.{noFigures, plus, countedOne, counted}
 use Rattle.release.specs.Framing.{firstOf, mostBegun, lengthOf, sizeOf, keptOf, begunOf, heldIn, opened}
-use Rattle.release.specs.Feeding.{standing, onward, fed, stateOf}
+use Rattle.release.specs.Feeding.{standing, onward, fed, stateOf, preparedAll, TablesAfterAll}
 use Rattle.release.proofs.FramingLaws.{first-length}
 use Rattle.release.proofs.StreamLaws.{none-short}
 
 -- A byte of bytes, and so many of them.
-byte-at : (xs : List ℕ) (i : ℕ) → AllUnder 256 xs → getD xs i 0 < 256
-unfolding AllUnder
-byte-at [] i h = omega arith
-byte-at (x ∷ xs) zero h = h .0
-byte-at (x ∷ xs) (suc i) h = byte-at xs i (h .1)
-
 made-under : (f : ℕ → ℕ) (bound a k : ℕ) → ((i : ℕ) → f i < bound) → AllUnder bound (map f (upFrom a k))
 unfolding AllUnder upFrom
 made-under f bound a zero h = tt
@@ -32,7 +31,7 @@ made-under f bound a (suc k) h = (h a, made-under f bound (suc a) k h)
 
 first-bytes : (m : ℕ) (xs : List ℕ) → AllUnder 256 xs → AllUnder 256 (firstOf m xs)
 unfolding firstOf
-first-bytes m xs h = made-under (λ i. getD xs i 0) 256 0 m (λ i. byte-at xs i h)
+first-bytes m xs h = made-under (λ i. getD xs i 0) 256 0 m (λ i. number-at xs i 256 (omega arith) h)
 
 taken-bytes : (n : ℕ) (xs : List ℕ) → AllUnder 256 xs → AllUnder 256 (take n xs)
 unfolding AllUnder
@@ -52,7 +51,7 @@ kept-bytes xs h = go (ltb mostBegun (sizeOf xs))
 cut-short : (xs : List ℕ) → AllUnder 256 xs → length xs < sizeOf xs → length xs < 65538
 cut-short xs h short =
     let size : sizeOf xs ≡ 2 + (256 * getD xs 0 0 + getD xs 1 0) = unfold sizeOf lengthOf in refl in
-    omega (arith, short, size, byte-at xs 0 h, byte-at xs 1 h)
+    omega (arith, short, size, number-at xs 0 256 (omega arith) h, number-at xs 1 256 (omega arith) h)
 
 pub record Fitting (s : Release) : Type 0 where
   pub valid-fits : s .figures .valid < 2 ^ 64
@@ -130,3 +129,17 @@ pub state-fits : (stream : List ℕ) → AllUnder 256 stream → Fitting (stateO
 unfolding stateOf
 state-fits stream h =
     onward-fits noFigures 0 stream (omega arith, omega arith, omega arith, omega arith, omega arith, omega arith) (omega arith) h
+
+-- Tables keep their lengths whatever is fed.
+all-length : (has : Sheet → List ℕ) (sheets : List (Answer Sheet)) (memory : List ℕ) → length (preparedAll has sheets memory) ≡ length memory
+unfolding preparedAll
+all-length has [] memory = refl
+all-length has (sheet ∷ rest) memory = all-length has rest (prepared has sheet memory) ∙ prepared-length has sheet memory
+
+module _ (sheets : List (Answer Sheet)) (heads nodes sets heads′ nodes′ sets′ : List ℕ) where
+  pub all-sized : TablesAfterAll sheets heads nodes sets heads′ nodes′ sets′ → Sized heads nodes sets → Sized heads′ nodes′ sets′
+  all-sized t s = (
+    ap length (t .0) ∙ all-length sheetHeads sheets heads ∙ s .0,
+    ap length (t .1) ∙ all-length nodeCells sheets nodes ∙ s .1,
+    ap length (t .2) ∙ all-length setWords sheets sets ∙ s .2,
+  )

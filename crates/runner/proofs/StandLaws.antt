@@ -18,7 +18,8 @@ use Rattle.routine.specs.declared.sheet.Prepared.{Prepared}
 use Rattle.routine.specs.Memory.{headAt}
 use Rattle.routine.specs.Tables.{preparedOf, startOf}
 use Rattle.progression.specs.declared.place.Place.{Place}
-use Rattle.progression.specs.Machine.{settled, effect, keptBy, stepped}
+use Rattle.progression.specs.declared.reply.Passed.{Passed}
+use Rattle.progression.specs.Machine.{settled, effect, stepped, passedBy}
 use Rattle.runner.specs.declared.answer.Rejection.{Rejection}
 use Rattle.runner.specs.declared.answer.Told.{Told}
 use Rattle.runner.specs.declared.walk.Walked.{Walked}
@@ -106,12 +107,12 @@ answered has some kept = if has then (if some then Judged.Kept kept else Judged.
 
 -- A reply to an action: the action doesn't have it, it keeps no state, or it is accepted with those that it keeps.
 module _ (heads sets : List ℕ) (set : States) (action reply : ℕ) where
-  abbrev keeps : States
-  keeps = keptBy sets (headAt heads action) set reply
+  abbrev by-pass : Passed
+  by-pass = passedBy heads sets set action reply
 
-  pub judged-by : (has some : Bool) → ltb reply (headAt heads action .count) ≡ has → nonempty (members keeps) ≡ some → judged heads sets set action reply ≡ answered has some keeps
+  pub judged-by : (has some : Bool) → ltb reply (headAt heads action .count) ≡ has → by-pass .possible ≡ some → judged heads sets set action reply ≡ answered has some (by-pass .kept)
   unfolding judged
-  judged-by has some h s = λ i. answered (h i) (s i) keeps
+  judged-by has some h s = λ i. answered (h i) (s i) (by-pass .kept)
 
   module _ (head : Head) (h : head ≡ headAt heads action) where
     count-is : head .count ≡ headAt heads action .count
@@ -121,14 +122,17 @@ module _ (heads sets : List ℕ) (set : States) (action reply : ℕ) where
     unfolding if_then_else_
     no-reply l = sym (judged-by false _ (le-ltb reply (headAt heads action .count) (omega (arith, l, count-is))) refl)
 
-    module _ (l : reply < head .count) (kept : States) (s : kept ≡ keeps) (empty : Bool) (q : empty ≡ not (nonempty (members kept))) where
-      pub impossible : empty ≡ true → Judged.Refused Rejection.NotPossible ≡ judged heads sets set action reply
-      unfolding if_then_else_
-      impossible t = sym (judged-by true false (lt-ltb reply (headAt heads action .count) (omega (arith, l, count-is))) (is-none _ kept s empty q t))
+    module _ (l : reply < head .count) (passed : Passed) (p : passed ≡ by-pass) where
+      by-possible : (some : Bool) → passed .possible ≡ some → judged heads sets set action reply ≡ answered true some (by-pass .kept)
+      by-possible some e = judged-by true some (lt-ltb reply (headAt heads action .count) (omega (arith, l, count-is))) (ap (λ (x : Passed). x .possible) (sym p) ∙ e)
 
-      pub possible : empty ≡ false → Judged.Kept kept ≡ judged heads sets set action reply
+      pub possible : passed .possible ≡ true → Judged.Kept (passed .kept) ≡ judged heads sets set action reply
       unfolding if_then_else_
-      possible t = ap Judged.Kept s ∙ sym (judged-by true true (lt-ltb reply (headAt heads action .count) (omega (arith, l, count-is))) (is-some _ kept s empty q t))
+      possible e = ap (λ (x : Passed). Judged.Kept (x .kept)) p ∙ sym (by-possible true e)
+
+      pub impossible : passed .possible ≡ false → Judged.Refused Rejection.NotPossible ≡ judged heads sets set action reply
+      unfolding if_then_else_
+      impossible e = sym (by-possible false e)
 
 -- What is told and answered at an action, and at the end.
 module _ (w : Walked) (place : Place) (set : States) where

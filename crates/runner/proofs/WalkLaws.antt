@@ -27,6 +27,7 @@ use Rattle.routine.proofs.TableLaws.{Tabled, tables-tabled}
 use Rattle.progression.specs.declared.place.Place.{Place}
 use Rattle.progression.specs.Machine.{settled, effect, stepped}
 use Rattle.progression.proofs.RoutineLaws.{Reached, AtAction, AtEnd, start-reached, reached-place, reached-occurs}
+use Rattle.progression.proofs.PassLaws.{passed-possible}
 use Rattle.runner.specs.declared.answer.Rejection.{Rejection}
 use Rattle.runner.specs.declared.answer.Told.{Told}
 use Rattle.runner.specs.declared.answer.Reported.{Reported}
@@ -252,13 +253,13 @@ module _ (bytes : List ℕ) (sheet : Sheet) (read : reading bytes ≡ gives shee
 
     act-answered : (h : History) (at : ℕ) (set : States) (x : AtAction sheet heads nodes sets h at set)
         → reportedOf (reportOf (judged heads sets (effect sets (headAt heads (x .action)) set) (x .action) r)) ≡ withoutValue (reportedTo sheet (perform (x .action) (x .after)) h rs r)
-    unfolding stepped
     act-answered h at set x =
         let has = ltb r (replyCount (actionOf sheet (x .action))) in
         let some = stillPossible sheet h (entry (x .action) r) in
         ap (λ (j : Judged). reportedOf (reportOf j))
-        (judged-by heads sets (effect sets (headAt heads (x .action)) set) (x .action) r has some (ap (ltb r) (count-is (x .action) (x .known-action))) (sym (possible-is h at set x)))
-        ∙ same-answer has some (stepped heads sets set (x .action) r) (rs ++ (r ∷ []))
+        (judged-by heads sets (effect sets (headAt heads (x .action)) set) (x .action) r has some (ap (ltb r) (count-is (x .action) (x .known-action)))
+        (passed-possible heads sets set (x .action) r ∙ sym (possible-is h at set x)))
+        ∙ same-answer has some _ (rs ++ (r ∷ []))
         ∙ ap withoutValue (sym (act-reported sheet rs (x .action) (x .after) h r has some refl refl))
 
     -- What is answered to one reply more where the replies lead is what "Report" answers.

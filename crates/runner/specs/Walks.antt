@@ -12,7 +12,7 @@ use Rattle.reader.specs.Answers.{numberOf}
 use Rattle.routine.specs.Memory.{headAt}
 use Rattle.routine.specs.Tables.{startOf}
 use Rattle.progression.specs.declared.place.Place.{Place}
-use Rattle.progression.specs.Machine.{settled, effect, keptBy, stepped}
+use Rattle.progression.specs.Machine.{settled, effect, stepped, passedBy}
 use Rattle.runner.specs.declared.answer.Rejection.{Rejection}
 use Rattle.runner.specs.declared.answer.Told.{Told}
 use Rattle.runner.specs.declared.walk.Walked.{Walked}
@@ -56,12 +56,12 @@ module _ (heads : List ℕ) where
   unfolding if_then_else_ isPadded walked heldSheet
   stands nodes sets r = if isPadded mostBytes (r .sheet) (r .len) then walked nodes sets (heldSheet r) (r .replies) (r .count) else gives Walked.Nowhere
 
-  -- A reply to an action, where the states of a set are possible after the effect: 33 before 34.
+  -- A reply to an action, where the states of a set are possible after the effect: 33 before 34, and the states that the pass keeps.
   unfoldable pub judged : (sets : List ℕ) → States → (action reply : ℕ) → Judged
-  unfolding if_then_else_ nonempty members keptBy headAt
+  unfolding if_then_else_ passedBy headAt
   judged sets set action reply =
       if ltb reply (headAt heads action .count) then
-      (if nonempty (members (keptBy sets (headAt heads action) set reply)) then Judged.Kept (keptBy sets (headAt heads action) set reply) else Judged.Refused Rejection.NotPossible)
+      (if passedBy heads sets set action reply .possible then Judged.Kept (passedBy heads sets set action reply .kept) else Judged.Refused Rejection.NotPossible)
       else Judged.Refused Rejection.NoSuchReply
 
   -- One reply more, where replies lead.

@@ -3,7 +3,7 @@ use crate::answer::Rejection;
 use crate::answer::Told;
 use progression::Place;
 use progression::effect;
-use progression::keep;
+use progression::pass;
 use progression::settle;
 use progression::step;
 use reader::Acceptance;
@@ -155,11 +155,12 @@ fn judge(
     if head.count <= reply {
         return Judged::Refused(Rejection::NoSuchReply);
     }
-    let kept = keep(heads, sets, set, action, reply);
-    if kept.is_empty() {
-        return Judged::Refused(Rejection::NotPossible);
+    let passed = pass(heads, sets, set, action, reply);
+    if passed.possible {
+        let kept = passed.kept;
+        return Judged::Kept(kept);
     }
-    Judged::Kept(kept)
+    Judged::Refused(Rejection::NotPossible)
 }
 
 // One reply more.

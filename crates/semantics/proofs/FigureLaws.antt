@@ -10,12 +10,13 @@ use lib.Dec.{ltb}
 use lib.ListN.{length, take, drop, replicate, length-replicate, length-append, length-map, take-append-drop}
 use lib.Seq.{take-append-le, drop-append-le, take-append-seam, drop-append-seam, length-take-le}
 use borrow.Author.Tests.{ltb-true, ltb-false, lt-ltb, le-ltb}
+use Rattle.lists.proofs.ListLaws.{keep-append, kept-length}
 use Rattle.lists.specs.Lists.{if_then_else_, keep, AllUnder}
 use Rattle.format.specs.Syntax.{Sheet}
 use Rattle.format.specs.Format.{Answer, gives, refused, onAccepted, mostBytes, reading, isEdition, header}
 use Rattle.format.proofs.ReaderLaws.{sheet-long}
 use Rattle.format.proofs.SheetLaws.{reading-refused}
-use Rattle.semantics.specs.Verdict.{Verdict, valid, invalid, stopped, historyCount, failures, concluded, outcome, outcomeOf, verdictOf, longestTrace, verified}
+use Rattle.semantics.specs.Verdict.{Verdict, valid, invalid, stopped, historyCount, failures, concluded, outcome, outcomeOf, verdictOf, longestTrace, admitted, verified}
 use Rattle.semantics.specs.Runs.{History}
 use Rattle.semantics.proofs.MemoryLaws.{admitted-long, invalid-short}
 use Rattle.semantics.specs.Figures.{framed, AllSaid, First, whole, none, behindLength, first, Apart, apartBehind, apart, mostLengths, cuts, lengthsBegun, releaseBudget, answerTo, answersTo, isValid, isInvalid, isStopped, isRefused, countIn, lengthIn, howMany, sumOf, greater, greatestOf, figuresOf, together, figures}
@@ -205,14 +206,8 @@ sum-most (bytes ∷ sheets) = let rest = sum-most sheets in omega (arith, count-
 
 -- Numbers of lists laid end to end.
 many-append : {A : Type 0} (test : A → Bool) (xs ys : List A) → howMany test (xs ++ ys) ≡ howMany test xs + howMany test ys
-unfolding howMany keep
-many-append test [] ys = omega arith
-many-append test (x ∷ xs) ys = go (test x) (many-append test xs ys)
-  where
-    go : (b : Bool) → length (keep test (xs ++ ys)) ≡ length (keep test xs) + length (keep test ys)
-        → length (if b then x ∷ keep test (xs ++ ys) else keep test (xs ++ ys)) ≡ length (if b then x ∷ keep test xs else keep test xs) + length (keep test ys)
-    go true e = unfold if_then_else_ in (omega (arith, e))
-    go false e = unfold if_then_else_ in e
+unfolding howMany
+many-append test xs ys = kept-length test xs ys
 
 sum-append : {A : Type 0} (f : A → ℕ) (xs ys : List A) → sumOf (map f (xs ++ ys)) ≡ sumOf (map f xs) + sumOf (map f ys)
 unfolding sumOf
@@ -265,16 +260,6 @@ unfolding greatestOf
 greatest-append [] ys = sym (greater-right 0 (greatestOf ys) (omega arith))
 greatest-append (x ∷ xs) ys = ap (greater x) (greatest-append xs ys) ∙ sym (greater-assoc x (greatestOf xs) (greatestOf ys))
 
-keep-append : {A : Type 0} (test : A → Bool) (xs ys : List A) → keep test (xs ++ ys) ≡ keep test xs ++ keep test ys
-unfolding keep
-keep-append test [] ys = refl
-keep-append {A} test (x ∷ xs) ys = go (test x) (keep-append test xs ys)
-  where
-    go : (b : Bool) → keep test (xs ++ ys) ≡ keep test xs ++ keep test ys
-        → (if b then x ∷ keep test (xs ++ ys) else keep test (xs ++ ys)) ≡ (if b then x ∷ keep test xs else keep test xs) ++ keep test ys
-    go true e = unfold if_then_else_ in (ap (λ (zs : List A). x ∷ zs) e)
-    go false e = unfold if_then_else_ in e
-
 lengths-append : (us vs : List (Answer Verdict))
     → greatestOf (map lengthIn (keep isInvalid (us ++ vs))) ≡ greater (greatestOf (map lengthIn (keep isInvalid us))) (greatestOf (map lengthIn (keep isInvalid vs)))
 lengths-append us vs =
@@ -285,6 +270,11 @@ lengths-append us vs =
 pub answers-append : (xs ys : List (List ℕ)) → answersTo (xs ++ ys) ≡ answersTo xs ++ answersTo ys
 unfolding answersTo
 answers-append xs ys = map-append (λ bytes. answerTo (reading bytes)) xs ys
+
+-- The figures of a stream, by what it is taken apart into.
+pub figures-by : (stream : List ℕ) (a : Apart) → apart mostLengths stream ≡ a → figures stream ≡ figuresOf (answersTo (a .sheets)) (cuts (a .cut))
+unfolding figures
+figures-by stream a e = ap (λ (b : Apart). figuresOf (answersTo (b .sheets)) (cuts (b .cut))) e
 
 -- The figures of answers laid end to end.
 figures-append : (us vs : List (Answer Verdict)) (cut : ℕ) → figuresOf (us ++ vs) cut ≡ together (figuresOf us 0) (figuresOf vs cut)
@@ -323,16 +313,13 @@ module _ (x y : List ℕ) (ends : apart mostLengths x .cut ≡ []) (fits : lengt
 
   pub figures-together : figures (x ++ y) ≡ together (figures x) (figures y)
   figures-together =
-      by-parts (x ++ y) (joined first-part (apart mostLengths y)) apart-both
+      figures-by (x ++ y) (joined first-part (apart mostLengths y)) apart-both
       ∙ ap (λ (us : List (Answer Verdict)). figuresOf us (cuts (apart mostLengths y .cut))) (answers-append (first-part .sheets) (apart mostLengths y .sheets))
       ∙ figures-append (answersTo (first-part .sheets)) (answersTo (apart mostLengths y .sheets)) (cuts (apart mostLengths y .cut))
-      ∙ sym (λ i. together (by-cut i) (by-parts y (apart mostLengths y) refl i))
+      ∙ sym (λ i. together (by-cut i) (figures-by y (apart mostLengths y) refl i))
     where
-      by-parts : (stream : List ℕ) (a : Apart) → apart mostLengths stream ≡ a → figures stream ≡ figuresOf (answersTo (a .sheets)) (cuts (a .cut))
-      by-parts stream a e = unfold figures in (ap (λ (b : Apart). figuresOf (answersTo (b .sheets)) (cuts (b .cut))) e)
-
       by-cut : figures x ≡ figuresOf (answersTo (first-part .sheets)) 0
-      by-cut = by-parts x first-part refl ∙ ap (figuresOf (answersTo (first-part .sheets))) (ap cuts ends ∙ unfold cuts in refl)
+      by-cut = figures-by x first-part refl ∙ ap (figuresOf (answersTo (first-part .sheets))) (ap cuts ends ∙ unfold cuts in refl)
 
 -- A stream of sheets is taken apart into them, and what is cut behind them.
 said-back : (n : ℕ) → 256 * (n / 256) + n % 256 ≡ n
@@ -462,12 +449,18 @@ cut-bytes (suc k) stream h = go (first stream) refl (first-laid stream h) (λ r 
         let there : Laid stream (whole sheet r) = subst (Laid stream) e l in
         subst (λ (a : Apart). AllUnder 256 (a .cut)) (sym (apart-whole k stream sheet r e)) (more r (there .2))
 
+-- The verifier's answer with that budget.
+pub answer-is : (sheet old : List ℕ) (a : Answer Sheet) → admitted sheet old ≡ a → verified sheet releaseBudget old .answer ≡ answerTo a
+unfolding verified answerTo
+answer-is sheet old a read = ap (λ (b : Answer Sheet). verdictOf (outcomeOf b releaseBudget)) read
+
 -- The length of an invalid one.
 pub length-most : (bytes : List ℕ) → lengthIn (answerTo (reading bytes)) ≤ 64
 length-most bytes = go (answerTo (reading bytes)) refl
   where
     given : verified bytes releaseBudget (replicate longestTrace 0) .answer ≡ answerTo (reading bytes)
-    given = unfold verified answerTo in (ap (λ (a : Answer Sheet). verdictOf (outcomeOf a releaseBudget)) (admitted-long bytes (replicate longestTrace 0) (omega (arith, length-replicate {A = ℕ} longestTrace 0))))
+    given =
+        answer-is bytes (replicate longestTrace 0) (reading bytes) (admitted-long bytes (replicate longestTrace 0) (omega (arith, length-replicate {A = ℕ} longestTrace 0)))
 
     go : (a : Answer Verdict) → answerTo (reading bytes) ≡ a → lengthIn a ≤ 64
     go (gives (valid c)) e = unfold lengthIn in (omega arith)

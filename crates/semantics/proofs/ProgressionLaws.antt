@@ -1,6 +1,7 @@
 -- Progression agrees with runs: for states, and for every epistemic formula. Assumes nothing.
 use Prim.Native.Nat.{ℕ}
 use mathlib.Core.Path.{_≡_, refl, sym, ap, subst, _∙_}
+use mathlib.Core.Logic.{_↔_}
 use mathlib.Core.List.{List, [], _∷_, _++_, List·Memᴰ}
 use mathlib.Core.Bool.{Bool, true, not, _&&_}
 use Rattle.lists.specs.Lists.{every, exists, keep, nonempty}
@@ -115,6 +116,21 @@ module _ (sheet : Sheet) where
   pub possible-more : (h : History) (e : Entry) → possible sheet (h ++ (e ∷ [])) ≡ progress sheet (possible sheet h) e
   unfolding possible possibleFrom
   possible-more h e = from-append h (e ∷ []) (startStates sheet)
+
+  -- So a state is possible behind an entry exactly if the entry leads to it from one that was possible before.
+  pub possible-behind : (h : History) (e : Entry) (t : ℕ) → Possible sheet (h ++ (e ∷ [])) t ↔ ((isState sheet t ≡ true) × ((s : ℕ) × Possible sheet h s × (step sheet e s t ≡ true)))
+  unfolding Possible progress
+  possible-behind h e t = (
+    λ p.
+        let m : List·Memᴰ t (possible sheet (h ++ (e ∷ []))) = subst (λ (u : ℕ). List·Memᴰ u (possible sheet (h ++ (e ∷ [])))) (p .2) (run-possible (h ++ (e ∷ [])) (p .0) (p .1)) in
+        let k = keep-mem (λ u. exists (λ s. step sheet e s u) (possible sheet h)) (states sheet) (subst (List·Memᴰ t) (possible-more h e) m) in
+        let x = exists-mem (λ s. step sheet e s t) (possible sheet h) (k .1) in
+        (listed-state sheet (k .0), (x .0, possible-run h (x .1), x .2)),
+    λ w.
+        let before : List·Memᴰ (w .1 .0) (possible sheet h) = subst (λ (u : ℕ). List·Memᴰ u (possible sheet h)) (w .1 .1 .2) (run-possible h (w .1 .1 .0) (w .1 .1 .1)) in
+        possible-run (h ++ (e ∷ [])) (subst (List·Memᴰ t) (sym (possible-more h e))
+        (mem-keep (λ u. exists (λ s. step sheet e s u) (possible sheet h)) (states sheet) (state-listed sheet t (w .0)) (mem-exists (λ s. step sheet e s t) (possible sheet h) before (w .1 .2)))),
+  )
 
   -- Only states pass these tests.
   after-states : (h : History) (set : ℕ → Bool) → ((t : ℕ) → set t ≡ true → isState sheet t ≡ true) → (t : ℕ) → setAfter sheet set h t ≡ true → isState sheet t ≡ true

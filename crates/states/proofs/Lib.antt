@@ -1,2 +1,3 @@
 pub mod BitLaws
 pub mod SetLaws
+pub mod CountLaws

@@ -53,6 +53,15 @@ extern "C" {
         reply: usize,
     );
 
+    fn recovery_pass(
+        heads: &[u16; HEAD_CELLS],
+        sets: &[u64; SET_WORDS],
+        set: &mut Words,
+        action: usize,
+        reply: usize,
+        evaluations: &mut [u64; 1],
+    ) -> u8;
+
     fn recovery_settle(
         nodes: &[u16; NODE_CELLS],
         sets: &[u64; SET_WORDS],
@@ -208,6 +217,41 @@ extern "C" {
     ) -> u8;
 }
 
+// Its tables are as large as those of today.
+#[cfg(lent_before)]
+extern "C" {
+    fn before_load_in(
+        bytes: *const u8,
+        length: usize,
+        sheet: &mut [u8; SHEET],
+        replies: &mut [u8; REPLIES],
+        lengths: &mut [usize; 2],
+        heads: &mut [u16; HEAD_CELLS],
+        nodes: &mut [u16; NODE_CELLS],
+        sets: &mut [u64; SET_WORDS],
+    ) -> u8;
+
+    fn before_next_in(
+        sheet: &[u8; SHEET],
+        replies: &[u8; REPLIES],
+        lengths: &[usize; 2],
+        told: &mut [usize; 2],
+        heads: &mut [u16; HEAD_CELLS],
+        nodes: &mut [u16; NODE_CELLS],
+        sets: &mut [u64; SET_WORDS],
+    ) -> u8;
+
+    fn before_report_in(
+        sheet: &[u8; SHEET],
+        replies: &mut [u8; REPLIES],
+        lengths: &mut [usize; 2],
+        reply: u8,
+        heads: &mut [u16; HEAD_CELLS],
+        nodes: &mut [u16; NODE_CELLS],
+        sets: &mut [u64; SET_WORDS],
+    ) -> u8;
+}
+
 /// `recovery_read`, or that of an earlier commit.
 type LinkedRead = unsafe extern "C" fn(*const u8, usize) -> u8;
 
@@ -224,13 +268,47 @@ type LinkedLoad = unsafe extern "C" fn(
     &mut [usize; 2],
 ) -> u8;
 
+/// `recovery_load_in`, or that of an earlier commit.
+type LinkedLoadIn = unsafe extern "C" fn(
+    *const u8,
+    usize,
+    &mut [u8; SHEET],
+    &mut [u8; REPLIES],
+    &mut [usize; 2],
+    &mut [u16; HEAD_CELLS],
+    &mut [u16; NODE_CELLS],
+    &mut [u64; SET_WORDS],
+) -> u8;
+
 /// `recovery_next`, or that of an earlier commit.
 type LinkedNext =
     unsafe extern "C" fn(&[u8; SHEET], &[u8; REPLIES], &[usize; 2], &mut [usize; 2]) -> u8;
 
+/// `recovery_next_in`, or that of an earlier commit.
+type LinkedNextIn = unsafe extern "C" fn(
+    &[u8; SHEET],
+    &[u8; REPLIES],
+    &[usize; 2],
+    &mut [usize; 2],
+    &mut [u16; HEAD_CELLS],
+    &mut [u16; NODE_CELLS],
+    &mut [u64; SET_WORDS],
+) -> u8;
+
 /// `recovery_report`, or that of an earlier commit.
 type LinkedReport =
     unsafe extern "C" fn(&[u8; SHEET], &mut [u8; REPLIES], &mut [usize; 2], u8) -> u8;
+
+/// `recovery_report_in`, or that of an earlier commit.
+type LinkedReportIn = unsafe extern "C" fn(
+    &[u8; SHEET],
+    &mut [u8; REPLIES],
+    &mut [usize; 2],
+    u8,
+    &mut [u16; HEAD_CELLS],
+    &mut [u16; NODE_CELLS],
+    &mut [u64; SET_WORDS],
+) -> u8;
 
 /// The memory that is lent for a sheet's tables.
 #[derive(Clone, Debug, PartialEq, Eq)]
@@ -361,6 +439,21 @@ pub fn prepare(bytes: &[u8], tables: &mut Tables, start: &mut Words) -> u8 {
 pub fn step(tables: &Tables, set: &mut Words, action: usize, reply: usize) {
     // SAFETY: as above.
     unsafe { recovery_step(&tables.heads, &tables.sets, set, action, reply) }
+}
+
+/// Keeps the states of the set in which the action's reply is true, writes how often
+/// the reply was evaluated, and tells whether a state is kept.
+#[inline]
+pub fn pass(
+    tables: &Tables,
+    set: &mut Words,
+    action: usize,
+    reply: usize,
+    evaluations: &mut [u64; 1],
+) -> bool {
+    let (heads, sets) = (&tables.heads, &tables.sets);
+    // SAFETY: as above.
+    yes_or_no(unsafe { recovery_pass(heads, sets, set, action, reply, evaluations) })
 }
 
 /// Where the program settles from a node on, the states of the set being possible.
@@ -585,9 +678,19 @@ fn load_by(load: LinkedLoad, bytes: &[u8], record: &mut Record) -> u8 {
 
 /// `load`, and writes the tables of an accepted sheet.
 pub fn load_in(bytes: &[u8], record: &mut Record, tables: &mut Tables) -> u8 {
+    load_in_by(recovery_load_in, bytes, record, tables)
+}
+
+/// The same by the library of an earlier commit.
+#[cfg(lent_before)]
+pub fn load_in_before(bytes: &[u8], record: &mut Record, tables: &mut Tables) -> u8 {
+    load_in_by(before_load_in, bytes, record, tables)
+}
+
+fn load_in_by(load: LinkedLoadIn, bytes: &[u8], record: &mut Record, tables: &mut Tables) -> u8 {
     // SAFETY: as above.
     unsafe {
-        recovery_load_in(
+        load(
             bytes.as_ptr(),
             bytes.len(),
             &mut record.sheet,
@@ -619,9 +722,24 @@ fn next_by(next: LinkedNext, record: &Record, told: &mut [usize; 2]) -> u8 {
 
 /// `next` in lent tables, which then are those of the record's sheet.
 pub fn next_in(record: &Record, told: &mut [usize; 2], tables: &mut Tables) -> u8 {
+    next_in_by(recovery_next_in, record, told, tables)
+}
+
+/// The same by the library of an earlier commit.
+#[cfg(lent_before)]
+pub fn next_in_before(record: &Record, told: &mut [usize; 2], tables: &mut Tables) -> u8 {
+    next_in_by(before_next_in, record, told, tables)
+}
+
+fn next_in_by(
+    next: LinkedNextIn,
+    record: &Record,
+    told: &mut [usize; 2],
+    tables: &mut Tables,
+) -> u8 {
     // SAFETY: as above.
     unsafe {
-        recovery_next_in(
+        next(
             &record.sheet,
             &record.replies,
             &record.lengths,
@@ -653,9 +771,19 @@ fn report_by(report: LinkedReport, record: &mut Record, reply: u8) -> u8 {
 
 /// `report` in lent tables, which then are those of the record's sheet.
 pub fn report_in(record: &mut Record, reply: u8, tables: &mut Tables) -> u8 {
+    report_in_by(recovery_report_in, record, reply, tables)
+}
+
+/// The same by the library of an earlier commit.
+#[cfg(lent_before)]
+pub fn report_in_before(record: &mut Record, reply: u8, tables: &mut Tables) -> u8 {
+    report_in_by(before_report_in, record, reply, tables)
+}
+
+fn report_in_by(report: LinkedReportIn, record: &mut Record, reply: u8, tables: &mut Tables) -> u8 {
     // SAFETY: as above.
     unsafe {
-        recovery_report_in(
+        report(
             &record.sheet,
             &mut record.replies,
             &mut record.lengths,

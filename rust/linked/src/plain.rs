@@ -205,6 +205,40 @@ fn advance(tables: &Tables, set: &mut Words, action: usize, reply: usize) {
     }
 }
 
+/// Keeps the states of a set in which an action's reply is true, over the tables of a
+/// sheet, by one look in each state; writes how many looks that were, and tells whether
+/// a state is kept.
+#[inline(never)]
+pub fn pass(
+    tables: &Tables,
+    set: &mut Words,
+    action: usize,
+    reply: usize,
+    evaluations: &mut [u64; 1],
+) -> bool {
+    let [_, replies, count] = head_at(tables, action);
+    let told = match reply < count {
+        true => set_at(tables, replies + reply),
+        false => &[0; 4],
+    };
+    let mut looks = 0;
+    for (word, told) in set.iter_mut().zip(told) {
+        let mut left = *word;
+        let mut kept = 0;
+        while left != 0 {
+            let state = left.trailing_zeros();
+            left &= left - 1;
+            looks += 1;
+            if told >> state & 1 == 1 {
+                kept |= 1 << state;
+            }
+        }
+        *word = kept;
+    }
+    *evaluations = [looks];
+    *set != [0; 4]
+}
+
 /// Where the program settles from a node on, over the tables of a sheet.
 #[inline]
 pub fn settle(tables: &Tables, set: &Words, at: usize) -> Place {

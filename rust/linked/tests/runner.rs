@@ -8,8 +8,9 @@ use std::cell::RefCell;
 use std::collections::BTreeMap;
 
 use common::{bytes, choices, excludes, longest, many, FEW};
-use linked::{Tables, Verdict, REPLIES, SHEET};
-use reference::edges::edges;
+use linked::straight::sequence;
+use linked::{plain, Tables, Verdict, REPLIES, SHEET};
+use reference::edges::{self, edges};
 use reference::encode::encode;
 use reference::execute::Execution;
 use reference::random::{damaged, good, Random, Size};
@@ -17,7 +18,7 @@ use reference::read::read;
 use reference::records::{some_record, DAMAGES};
 use reference::refusal::Refusal;
 use reference::runner::{Record, Told};
-use reference::sheet::{Action, Program, Sheet, MAX_TRACE};
+use reference::sheet::{Action, Objective, Program, Sheet, MAX_TRACE};
 use reference::step::{gather, keep, start_states};
 
 /// What "Next" leaves where it refuses.
@@ -405,6 +406,81 @@ fn full_runs_end_as_the_verdict_says() {
     assert!(most >= 100, "{most}");
     assert!(calls.goals_met >= 2000 && calls.goals_missed >= 1000);
     assert!(calls.reports[&33] >= 1000 && calls.reports[&34] >= 1000);
+}
+
+/// How often a reply that the action has was possible, impossible, and possible though
+/// a state denies it.
+#[derive(Debug, Default)]
+struct Judged {
+    possible: usize,
+    impossible: usize,
+    denied: usize,
+    most_states: u64,
+}
+
+/// Along a random run: "Report" accepts each reply that the action has exactly if one
+/// pass over the states possible after the effect says that it is possible, and else
+/// answers 34. The pass writes none of the tables.
+fn judge_replies(random: &mut Random, bytes: &[u8], sheet: &Sheet, judged: &mut Judged) {
+    let (mut tables, mut record) = (Tables::zeroed(), any_memory(random));
+    assert_eq!(linked::prepare(bytes, &mut tables, &mut [0; 4]), 0);
+    assert_eq!(linked::load(bytes, &mut record), 0);
+    let before = tables.clone();
+    let mut possible = start_states(sheet);
+    loop {
+        let mut told = BEFORE;
+        assert_eq!(linked::next(&record, &mut told), 0);
+        let [0, number] = told else {
+            break;
+        };
+        let action = &sheet.actions[number];
+        let after = gather(sheet, action, &possible);
+        let all = plain::words(after.iter());
+        let mut accepted = Vec::new();
+        for reply in 0..action.reply_count() {
+            let (mut kept, mut evaluations) = (all, [u64::MAX]);
+            let is_possible =
+                linked::pass(&tables, &mut kept, number, reply.into(), &mut evaluations);
+            let mut longer = record.clone();
+            let answer = linked::report(&mut longer, reply);
+            assert_eq!(answer, if is_possible { 0 } else { 34 }, "{bytes:02x?}");
+            judged.most_states = judged.most_states.max(evaluations[0]);
+            if is_possible {
+                judged.possible += 1;
+                judged.denied += usize::from(kept != all);
+                accepted.push((reply, longer));
+            } else {
+                judged.impossible += 1;
+            }
+        }
+        let (reply, longer) = random.pick(&accepted).clone();
+        possible = keep(action, reply, &after);
+        record = longer;
+    }
+    assert!(tables == before, "{bytes:02x?}");
+}
+
+#[test]
+fn reports_as_the_pass_says() {
+    let mut random = Random::new(66);
+    let mut judged = Judged::default();
+    // All 256 states are possible.
+    let all_states = encode(&Sheet {
+        facts: 8,
+        actions: vec![Action::Probe(vec![Objective::Fact(7), Objective::True])],
+        program: sequence(&[0, 0]),
+        ..edges::plain()
+    });
+    let some = sheets(&mut random).into_iter().step_by(2);
+    for bytes in some.chain([all_states]) {
+        if let Ok(sheet) = read(&bytes) {
+            judge_replies(&mut random, &bytes, &sheet, &mut judged);
+        }
+    }
+    assert!(judged.possible >= 5000, "{judged:?}");
+    assert!(judged.impossible >= 1500, "{judged:?}");
+    assert!(judged.denied >= 1500, "{judged:?}");
+    assert_eq!(judged.most_states, 256, "{judged:?}");
 }
 
 #[test]

@@ -1,11 +1,11 @@
-//! The proved tables, steps, places and known formulas against the Rust
-//! implementation, and against a model of their definitions on memory with any
-//! numbers.
+//! The proved tables, steps, passes over the possible states, places and known formulas
+//! against the Rust implementation, and against a model of their definitions on memory
+//! with any numbers.
 
 use std::collections::{BTreeMap, BTreeSet, VecDeque};
 use std::sync::LazyLock;
 
-use linked::{known, plain, prepare, settle, step, Place, Tables, Words};
+use linked::{known, pass, plain, prepare, settle, step, Place, Tables, Words};
 use reference::edges::edges;
 use reference::encode::encode;
 use reference::execute::Execution;
@@ -13,7 +13,7 @@ use reference::random::{damaged, good, Random, Size};
 use reference::read::read;
 use reference::sheet::{Action, Epistemic, Program, Sheet};
 use reference::states::{excluded, State, StateSet};
-use reference::step::{gather, keep, start_states};
+use reference::step::{gather, replies, start_states, Passed};
 use reference::truth::holds_knowing;
 
 /// Different accepted sheets of all sizes and at the limits, with their bytes.
@@ -49,6 +49,27 @@ fn members(set: &Words) -> StateSet {
 
 fn member(set: &Words, state: usize) -> bool {
     set[state / 64] >> (state % 64) & 1 == 1
+}
+
+/// What one pass keeps, whether that is a state, and how often it evaluated the reply,
+/// from any number in the memory for that. Nothing around the two memories is written.
+fn passed(
+    tables: &Tables,
+    set: &Words,
+    action: usize,
+    reply: usize,
+    evaluations: u64,
+) -> (Words, bool, u64) {
+    const MARK: u64 = 0xa5a5_5a5a_0f0f_f0f0;
+    let [a, b, c, d] = *set;
+    let mut memory = [MARK, a, b, c, d, MARK, evaluations, MARK];
+    let (left, right) = memory.split_at_mut(6);
+    let lent = (&mut left[1..5]).try_into().unwrap();
+    let lent_count = (&mut right[..1]).try_into().unwrap();
+    let possible = pass(tables, lent, action, reply, lent_count);
+    let [first, a, b, c, d, middle, evaluations, last] = memory;
+    assert_eq!([first, middle, last], [MARK; 3]);
+    ([a, b, c, d], possible, evaluations)
 }
 
 #[test]
@@ -175,7 +196,8 @@ impl Compared {
     }
 
     /// Compares the possible states after each reply, and one more than there
-    /// are; gives the points that a run reaches.
+    /// are, by a step and by a pass over those after the effect; gives the points that
+    /// a run reaches.
     fn steps(
         &mut self,
         sheet: &Sheet,
@@ -186,15 +208,23 @@ impl Compared {
     ) -> Vec<Point> {
         let action = &sheet.actions[number];
         let gathered = gather(sheet, action, &point.possible);
+        let after = plain::words(gathered.iter());
         let mut points = Vec::new();
         for reply in 0..=action.reply_count() {
             let mut set = point.set;
             step(tables, &mut set, number, usize::from(reply));
-            let possible = keep(action, reply, &gathered);
-            assert_eq!(members(&set), possible, "after {:?}", point.replies);
+            let Passed {
+                kept,
+                possible,
+                evaluations,
+            } = reference::step::pass(&gathered, |after| replies(action, reply, after));
+            assert_eq!(members(&set), kept, "after {:?}", point.replies);
+            let found = passed(tables, &after, number, reply.into(), u64::MAX);
+            let expected = (set, possible, evaluations as u64);
+            assert_eq!(found, expected, "after {:?}", point.replies);
             if reply == action.reply_count() {
                 self.no_such_reply += 1;
-            } else if possible.is_empty() {
+            } else if !possible {
                 self.impossible += 1;
             } else {
                 match action {
@@ -207,7 +237,7 @@ impl Compared {
                     replies,
                     at: node + 1,
                     set,
-                    possible,
+                    possible: kept,
                 });
             }
         }
@@ -394,18 +424,40 @@ mod machine {
         rows < replies
     }
 
-    pub fn stepped(tables: &Tables, set: &Words, action: usize, reply: usize) -> Words {
-        let [rows, replies, count] = head_at(tables, action);
-        if reply >= count {
+    /// Whether an action has a reply, by its head.
+    pub fn has_reply(tables: &Tables, action: usize, reply: usize) -> bool {
+        let [_, _, count] = head_at(tables, action);
+        reply < count
+    }
+
+    /// The states in which a reply of an action is true: none if it hasn't the reply.
+    fn told_in(tables: &Tables, action: usize, reply: usize) -> Words {
+        if !has_reply(tables, action, reply) {
             return [0; 4];
         }
+        let [_, replies, _] = head_at(tables, action);
+        set_at(tables, replies + reply)
+    }
+
+    pub fn stepped(tables: &Tables, set: &Words, action: usize, reply: usize) -> Words {
+        let [rows, replies, _] = head_at(tables, action);
         let effect = if rows < replies {
             gathered(tables, rows, set)
         } else {
             *set
         };
-        let told = set_at(tables, replies + reply);
+        let told = told_in(tables, action, reply);
         set_of(|state| member(&effect, state) && member(&told, state))
+    }
+
+    /// The states of a set in which a reply is true, whether there is one, and how often
+    /// the reply was evaluated.
+    pub fn passed(tables: &Tables, set: &Words, action: usize, reply: usize) -> (Words, bool, u64) {
+        let told = told_in(tables, action, reply);
+        let kept = set_of(|state| member(set, state) && member(&told, state));
+        let states = || (0..256).filter(|&state| member(set, state));
+        let possible = states().any(|state| member(&told, state));
+        (kept, possible, states().count() as u64)
     }
 
     fn node_at(tables: &Tables, node: usize) -> [usize; 3] {
@@ -662,6 +714,17 @@ fn random_tables(random: &mut Random) -> Tables {
     tables
 }
 
+/// An action and a reply to it, of which the memory has heads or not.
+fn random_reply(random: &mut Random) -> (usize, usize) {
+    let action = random_index(random, 31);
+    let reply = match random.below(4) {
+        0 => random.below(8),
+        1 => random_index(random, 65_536),
+        _ => random.below(4000),
+    };
+    (action, reply)
+}
+
 #[test]
 fn steps_on_any_memory() {
     let mut random = Random::new(27);
@@ -670,12 +733,7 @@ fn steps_on_any_memory() {
         let tables = random_tables(&mut random);
         for _ in 0..40 {
             let before = random_set(&mut random);
-            let action = random_index(&mut random, 31);
-            let reply = match random.below(4) {
-                0 => random.below(8),
-                1 => random_index(&mut random, 65_536),
-                _ => random.below(4000),
-            };
+            let (action, reply) = random_reply(&mut random);
             let expected = machine::stepped(&tables, &before, action, reply);
             let mut set = before;
             step(&tables, &mut set, action, reply);
@@ -690,6 +748,117 @@ fn steps_on_any_memory() {
     }
     let counts = [gathered, kept, empty, past];
     assert!(counts.iter().all(|&count| count >= 500), "{counts:?}");
+}
+
+#[test]
+fn passes_on_any_memory() {
+    let mut random = Random::new(31);
+    let (mut possible, mut impossible, mut no_such_reply, mut past) = (0, 0, 0, 0);
+    for _ in 0..200 {
+        let tables = random_tables(&mut random);
+        let before = tables.clone();
+        for _ in 0..80 {
+            let set = random_set(&mut random);
+            let (action, reply) = random_reply(&mut random);
+            let old = word(&mut random);
+            let found = passed(&tables, &set, action, reply, old);
+            let expected = machine::passed(&tables, &set, action, reply);
+            assert_eq!(found, expected, "action {action} reply {reply} {set:x?}");
+            match (expected.1, machine::has_reply(&tables, action, reply)) {
+                (true, _) => possible += 1,
+                (false, true) => impossible += usize::from(set != [0; 4]),
+                (false, false) => no_such_reply += usize::from(set != [0; 4]),
+            }
+            past += usize::from(action >= 31);
+        }
+        assert!(tables == before);
+    }
+    let counts = [possible, impossible, no_such_reply, past];
+    assert!(counts.iter().all(|&count| count >= 500), "{counts:?}");
+}
+
+/// Tables of zeros but for the head of one action and the set of one of its replies,
+/// with rows before it, in which no state follows, or none.
+fn tables_of_one_reply(random: &mut Random, told: &Words) -> (Tables, usize, usize) {
+    let mut tables = Tables::zeroed();
+    let (action, reply) = (random.below(31), random.below(8));
+    let number = random.between(reply + 1, 10_239);
+    let replies = number - reply;
+    let rows = *random.pick(&[0, replies]);
+    let count = random.between(reply + 1, 8);
+    let head = [rows, replies, count].map(|cell| cell as u16);
+    tables.heads[3 * action..3 * action + 3].copy_from_slice(&head);
+    tables.sets[4 * number..4 * number + 4].copy_from_slice(told);
+    (tables, action, reply)
+}
+
+/// Of so many states in 8 each is in the set by chance; of 0 none is, of 8 all are.
+fn set_of_density(random: &mut Random, density: usize) -> Words {
+    let chosen = |_: &State| random.chance(density, 8);
+    plain::words((0..=State::MAX).filter(chosen))
+}
+
+#[test]
+fn passes_by_density() {
+    let mut random = Random::new(32);
+    let mut counts = [0; 2];
+    for truth in 0..=8 {
+        for _ in 0..8 {
+            let told = set_of_density(&mut random, truth);
+            let (tables, action, reply) = tables_of_one_reply(&mut random, &told);
+            let before = tables.clone();
+            let mut sets: Vec<Words> = (0..=8)
+                .map(|density| set_of_density(&mut random, density))
+                .collect();
+            sets.extend((0..=State::MAX).map(|state| plain::words([state])));
+            sets.extend([told, told.map(|word| !word)]);
+            for set in sets {
+                let kept = [0, 1, 2, 3].map(|i| set[i] & told[i]);
+                let states: u32 = set.iter().map(|word| word.count_ones()).sum();
+                let expected = (kept, kept != [0; 4], u64::from(states));
+                // Whatever stood where the number of evaluations is written.
+                for old in [0, 1, 256, u64::MAX, word(&mut random)] {
+                    let found = passed(&tables, &set, action, reply, old);
+                    assert_eq!(found, expected, "{set:x?} {told:x?} over {old}");
+                }
+                counts[usize::from(expected.1)] += 1;
+            }
+            assert!(tables == before);
+        }
+    }
+    assert!(counts.iter().all(|&count| count >= 5000), "{counts:?}");
+}
+
+/// A reply that is true in one state alone, or in all but one.
+#[test]
+fn passes_to_one_state() {
+    let mut random = Random::new(33);
+    let all = [u64::MAX; 4];
+    for state in 0..=State::MAX {
+        let one = plain::words([state]);
+        let others = one.map(|word| !word);
+        let (tables, action, reply) = tables_of_one_reply(&mut random, &one);
+        let of = |set| passed(&tables, set, action, reply, 7);
+        assert_eq!(of(&all), (one, true, 256));
+        assert_eq!(of(&one), (one, true, 1));
+        assert_eq!(of(&others), ([0; 4], false, 255));
+        assert_eq!(of(&[0; 4]), ([0; 4], false, 0));
+        let (tables, action, reply) = tables_of_one_reply(&mut random, &others);
+        let of = |set| passed(&tables, set, action, reply, 7);
+        assert_eq!(of(&all), (others, true, 256));
+        assert_eq!(of(&one), ([0; 4], false, 1));
+        assert_eq!(of(&others), (others, true, 255));
+        // Every state is looked at also for a reply that the action hasn't.
+        for (action, reply) in [
+            (action, 8),
+            (action, usize::MAX),
+            (31, reply),
+            (usize::MAX, 0),
+        ] {
+            let found = passed(&tables, &all, action, reply, 7);
+            assert_eq!(found, ([0; 4], false, 256), "action {action} reply {reply}");
+        }
+    }
 }
 
 #[test]

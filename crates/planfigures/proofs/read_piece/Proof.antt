@@ -5,7 +5,8 @@ use lib.Seq.{length-take-le}
 use borrow.Author.Needs.{needs, sfits-of}
 use Rattle.planfigures.specs.declared.Next.{Next}
 use Rattle.planfigures.specs.Input.{Within}
-use Rattle.planfigures.proofs.InputLaws.{read-within, piece-within, piece-followed, over-followed, all-sized}
+use Rattle.planfigures.proofs.InputLaws.{read-within, piece-within, piece-followed, over-followed}
+use Rattle.release.proofs.SizeLaws.{all-sized}
 use Rattle.planfigures.proofs.read_piece.Statement.{statement}
 use Rattle.planfigures.proofs.read_piece.Tie as tie
 

@@ -1,5 +1,5 @@
 -- `recovery::recovery_figures_feed` meets its contract: the state that was lent is fed, and its numbers are written. Assumes nothing.
-use Rattle.recovery.proofs.NumberLaws.{done-flag, more-flag, fed-lent, memo-fed, tables-fed}
+use Rattle.recovery.proofs.NumberLaws.{fed-lent, memo-fed, tables-fed}
 use borrow.Author.Needs.{needs}
 use Rattle.recovery.proofs.recovery_figures_feed.Statement.{statement}
 use Rattle.recovery.proofs.recovery_figures_feed.Tie as tie
@@ -16,19 +16,15 @@ put-release-requires c κs = search needs
 is-done-requires : tie.Need-is-done-requires
 is-done-requires c κs = search needs
 
+flag-requires : tie.Need-flag-requires
+flag-requires c κs = search needs
+
 returns : tie.Need-returns
 returns c =
     let put = c .before .before .put-release .ensures in
     let lent = c .before .before .before .before .before .before .before .before .before .before .lent-release .ensures in
     let after = c .before .before .before .before .before .feed .ensures in
-    (λ sized. fed-lent _ _ _ _ _ _ 1 _ lent (after .0 sized .0) (put .0) (put .1) (c .before .is-done .ensures .0) (done-flag _ (c .if1 .taken)), memo-fed _ _ _ lent _ _ (after .1), tables-fed _ _ _ lent _ _ _ _ _ _ (after .2))
-
-returns-2 : tie.Need-returns-2
-returns-2 c =
-    let put = c .before .before .put-release .ensures in
-    let lent = c .before .before .before .before .before .before .before .before .before .before .lent-release .ensures in
-    let after = c .before .before .before .before .before .feed .ensures in
-    (λ sized. fed-lent _ _ _ _ _ _ 0 _ lent (after .0 sized .0) (put .0) (put .1) (c .before .is-done .ensures .0) (more-flag _ (c .if1 .left)), memo-fed _ _ _ lent _ _ (after .1), tables-fed _ _ _ lent _ _ _ _ _ _ (after .2))
+    (λ sized. fed-lent _ _ _ _ _ _ _ _ lent (after .0 sized .0) (put .0) (put .1) (c .before .is-done .ensures .0) (c .flag .ensures), memo-fed _ _ _ lent _ _ (after .1), tables-fed _ _ _ lent _ _ _ _ _ _ (after .2))
 
 pub recovery-figures-feed-spec : {M : Type 1} → statement M
 recovery-figures-feed-spec =
@@ -38,5 +34,5 @@ recovery-figures-feed-spec =
     feed-requires
     put-release-requires
     is-done-requires
-    returns
-    returns-2)
+    flag-requires
+    returns)

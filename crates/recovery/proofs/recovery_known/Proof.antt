@@ -1,5 +1,5 @@
--- `recovery::recovery_known` meets its contract, case by case. Assumes nothing.
-use mathlib.Core.Path.{sym, ap, _∙_}
+-- `recovery::recovery_known` meets its contract. Assumes nothing.
+use mathlib.Core.Path.{ap, _∙_}
 use Rattle.recovery.specs.Numbers.{flagNumber}
 use Rattle.recovery.proofs.NumberLaws.{known-lent}
 use borrow.Author.Needs.{needs}
@@ -12,13 +12,11 @@ of-words-requires c κs = search needs
 known-requires : tie.Need-known-requires
 known-requires c κs = search needs
 
-returns : tie.Need-returns
-unfolding flagNumber
-returns c = ap flagNumber (sym (c .if1 .taken) ∙ known-lent _ _ _ _ _ (c .before .before .of-words .ensures) (c .before .known .ensures))
+flag-requires : tie.Need-flag-requires
+flag-requires c κs = search needs
 
-returns-2 : tie.Need-returns-2
-unfolding flagNumber
-returns-2 c = ap flagNumber (sym (c .if1 .left) ∙ known-lent _ _ _ _ _ (c .before .before .of-words .ensures) (c .before .known .ensures))
+returns : tie.Need-returns
+returns c = c .flag .ensures ∙ ap flagNumber (known-lent _ _ _ _ _ (c .before .before .of-words .ensures) (c .before .known .ensures))
 
 pub recovery-known-spec : {M : Type 1} → statement M
-recovery-known-spec = tie.close (tie.spec of-words-requires known-requires returns returns-2)
+recovery-known-spec = tie.close (tie.spec of-words-requires known-requires flag-requires returns)

@@ -61,6 +61,7 @@ struct Needs {
     read: Need,
     prepare: Need,
     step: Need,
+    pass: Need,
     settle: Need,
     known: Need,
     print: Need,
@@ -111,6 +112,11 @@ impl Needs {
             self.step
                 .add(name, &mut || linked::step(tables, &mut set, action, 0));
             assert_ne!(set, [0; 4], "{name}");
+            let (mut possible, mut evaluations) = (false, [0]);
+            self.pass.add(name, &mut || {
+                possible = linked::pass(tables, &mut set, action, 0, &mut evaluations)
+            });
+            assert!(possible && evaluations[0] > 0, "{name}");
         }
         for set in [start, [0; 4]] {
             let mut place = None;
@@ -159,6 +165,7 @@ impl Needs {
         self.read.print("recovery_read");
         self.prepare.print("recovery_prepare");
         self.step.print("recovery_step");
+        self.pass.print("recovery_pass");
         self.settle.print("recovery_settle");
         self.known.print("recovery_known");
         self.print.print("recovery_print");

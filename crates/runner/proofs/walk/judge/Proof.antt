@@ -1,4 +1,4 @@
--- `walk::judge` meets its contract: the head of the action tells how many replies it has, and what the reply keeps whether it is possible. Assumes nothing.
+-- `walk::judge` meets its contract: the head of the action tells how many replies it has, and the pass whether it is possible. Assumes nothing.
 use borrow.Author.Needs.{needs}
 use Rattle.runner.proofs.StandLaws.{no-reply, impossible, possible}
 use Rattle.runner.proofs.walk.judge.Statement.{statement}
@@ -10,19 +10,16 @@ head-at-requires c κs = search needs
 returns : tie.Need-returns
 returns c = no-reply _ _ _ _ _ _ (c .before .before .head-at .ensures .0) (c .if1 .taken)
 
-keep-requires : tie.Need-keep-requires
-keep-requires c κs = search needs
-
-is-empty-requires : tie.Need-is-empty-requires
-is-empty-requires c κs = search needs
+pass-requires : tie.Need-pass-requires
+pass-requires c κs = search needs
 
 returns-2 : tie.Need-returns-2
 returns-2 c =
-    impossible _ _ _ _ _ _ (c .before .before .before .before .before .head-at .ensures .0) (c .before .before .before .if1 .left) _ (c .before .before .keep .ensures) _ (c .before .is-empty .ensures) (c .if2 .taken)
+    possible _ _ _ _ _ _ (c .before .before .before .before .before .head-at .ensures .0) (c .before .before .before .if1 .left) _ (c .before .before .pass .ensures) (c .before .if2 .taken)
 
 returns-3 : tie.Need-returns-3
 returns-3 c =
-    possible _ _ _ _ _ _ (c .before .before .before .before .before .head-at .ensures .0) (c .before .before .before .if1 .left) _ (c .before .before .keep .ensures) _ (c .before .is-empty .ensures) (c .if2 .left)
+    impossible _ _ _ _ _ _ (c .before .before .before .before .head-at .ensures .0) (c .before .before .if1 .left) _ (c .before .pass .ensures) (c .if2 .left)
 
 pub judge-spec : {M : Type 1} → statement M
-judge-spec = tie.close (tie.spec head-at-requires returns keep-requires is-empty-requires returns-2 returns-3)
+judge-spec = tie.close (tie.spec head-at-requires returns pass-requires returns-2 returns-3)

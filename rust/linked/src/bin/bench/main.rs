@@ -2,7 +2,7 @@
 //!
 //! Each line gives the least time of a call for each, and the quotients. Run it
 //! in release mode; an argument chooses one of the sections "reading", "tables",
-//! "steps", "verifying", "slowest", "lent", "growth", "runner" and "figures". Behind
+//! "steps", "pass", "verifying", "slowest", "lent", "growth", "runner" and "figures". Behind
 //! "growth" the path of a picture to write may follow. With the feature `before` the proved
 //! reader, tables, steps, settling, verifier and runner of an earlier commit are timed
 //! too.
@@ -11,9 +11,11 @@ mod before;
 mod figures;
 mod growth;
 mod lent;
+mod pass;
 mod picture;
 mod reading;
 mod routines;
+mod runner;
 mod sheets;
 mod slowest;
 mod steps;
@@ -23,13 +25,10 @@ mod verifying;
 use std::hint::black_box;
 use std::time::{Duration, Instant};
 
-use linked::{plain, Place, Tables};
-use reference::encode::encode;
+use linked::{plain, Tables};
 use reference::read::read;
-use reference::runner::{Record, Told};
 
 use before::Before;
-use routines::verified_sheets;
 
 /// The budget of `planverify`.
 const BUDGET: u32 = 1_000_000;
@@ -51,6 +50,10 @@ fn main() {
         println!("\nsteps and places, 8 facts");
         steps::rows();
     }
+    if wanted("pass") {
+        println!("\none pass over the possible states when a reply comes in, 8 facts");
+        pass::rows();
+    }
     if wanted("verifying") {
         println!("\nverifying, 8 facts where none are named");
         verifying::rows();
@@ -69,7 +72,7 @@ fn main() {
     }
     if wanted("runner") {
         println!("\nthe runner at the last action of a run, 8 facts where none are named");
-        runner_rows();
+        runner::rows();
     }
     if wanted("figures") {
         println!("\nthe figures of a stream, fed in pieces of 65,536 bytes");
@@ -143,195 +146,6 @@ fn prepare_row(name: &str, bytes: &[u8]) -> (f64, Option<f64>) {
 fn last_set(tables: &Tables) -> u16 {
     let atoms = tables.nodes.chunks(3).filter(|node| node[0] == plain::ATOM);
     atoms.map(|node| node[1]).max().unwrap()
-}
-
-/// The calls of a proved runner in tables of their own.
-#[derive(Clone, Copy)]
-struct Runner {
-    load: fn(&[u8], &mut linked::Record) -> u8,
-    next: fn(&linked::Record, &mut [usize; 2]) -> u8,
-    report: fn(&mut linked::Record, u8) -> u8,
-}
-
-const PROVED: Runner = Runner {
-    load: linked::load,
-    next: linked::next,
-    report: linked::report,
-};
-
-/// The proved runner of an earlier commit.
-#[cfg(feature = "before")]
-const BEFORE: Option<Runner> = Some(Runner {
-    load: linked::load_before,
-    next: linked::next_before,
-    report: linked::report_before,
-});
-#[cfg(not(feature = "before"))]
-const BEFORE: Option<Runner> = None;
-
-/// Loading, "Next" and "Report" of the proved runner beside the one of an earlier commit,
-/// if that is linked, and two in Rust: `reference::runner`, which reads the sheet and
-/// steps over its tree (data), and `plain::follow` over the tables that the proved
-/// `prepare` makes in its time. `load_in`, `next_in` and `report_in` are the proved ones
-/// in lent tables, which the earlier commit doesn't have: before is in its own.
-fn runner_rows() {
-    println!(
-        "{:<54} {:>7} {:>9} {:>10} {:>10} {:>10} {:>10} {:>9} {:>8} {:>9}",
-        "sheet",
-        "replies",
-        "call",
-        "proved us",
-        "before us",
-        "data us",
-        "tables us",
-        "to before",
-        "to data",
-        "to tables"
-    );
-    let wanted = [
-        "6 changes to 16 states each, 12 probes",
-        "64 probes, the first history fails",
-        "a random routine",
-        "sample 1, 1 fact",
-    ];
-    for (name, sheet) in verified_sheets() {
-        if !wanted.contains(&name) {
-            continue;
-        }
-        let bytes = &encode(&sheet);
-        let (record, reply) = last_action(bytes);
-        let replies = &record.replies[..record.count];
-        let lent = linked::Record {
-            sheet: record.sheet,
-            replies: record.replies,
-            lengths: [record.length, record.count],
-        };
-        let (mut tables, mut start) = (Tables::zeroed(), [0; 4]);
-        let mut follow = || {
-            linked::prepare(black_box(bytes), &mut tables, &mut start);
-            let (mut set, place) = plain::follow(&tables, &start, replies).unwrap();
-            let Place::Act { action, .. } = place else {
-                unreachable!()
-            };
-            plain::step(&tables, &mut set, action, reply.into());
-            (action, set)
-        };
-        let load = |runner: Runner| {
-            let mut loaded = black_box(&lent).clone();
-            assert_eq!((runner.load)(black_box(bytes), &mut loaded), 0);
-            loaded
-        };
-        let next = |runner: Runner| {
-            let mut told = [0; 2];
-            assert_eq!((runner.next)(black_box(&lent), &mut told), 0);
-            told
-        };
-        let report = |runner: Runner| {
-            let mut after = black_box(&lent).clone();
-            assert_eq!((runner.report)(&mut after, reply), 0);
-            after
-        };
-        // The same in lent tables.
-        let mut memory = Tables::zeroed();
-        let mut next_in = || {
-            let mut told = [0; 2];
-            assert_eq!(linked::next_in(black_box(&lent), &mut told, &mut memory), 0);
-            told
-        };
-        let mut memory = Tables::zeroed();
-        let mut report_in = || {
-            let mut after = black_box(&lent).clone();
-            assert_eq!(linked::report_in(&mut after, reply, &mut memory), 0);
-            after
-        };
-        let mut memory = Tables::zeroed();
-        let mut load_in = || {
-            let mut loaded = black_box(&lent).clone();
-            assert_eq!(
-                linked::load_in(black_box(bytes), &mut loaded, &mut memory),
-                0
-            );
-            loaded
-        };
-        let answers = |runner| (load(runner), next(runner), report(runner));
-        let (loaded, told, after) = answers(PROVED);
-        let action = follow().0;
-        assert_eq!(loaded.lengths, [bytes.len(), 0]);
-        assert_eq!(told, [0, action]);
-        assert_eq!(record.clone().next().1, Told::Action(action as u8));
-        let count = record.clone().report(reply).0.count;
-        assert_eq!(after.lengths, [bytes.len(), count]);
-        assert_eq!((load_in(), next_in(), report_in()), answers(PROVED));
-        if let Some(runner) = BEFORE {
-            assert_eq!(answers(runner), answers(PROVED));
-        }
-        // For each call the times of the proved ones, of the one before and over data.
-        let mut least = [[f64::INFINITY; 4]; 3];
-        let mut over_tables = f64::INFINITY;
-        for _ in 0..7 {
-            let times = [
-                [
-                    time(|| load(PROVED).lengths[0]),
-                    time(|| load_in().lengths[0]),
-                    BEFORE.map_or(f64::INFINITY, |runner| time(|| load(runner).lengths[0])),
-                    time(|| Record::load(black_box(bytes)).0.length),
-                ],
-                [
-                    time(|| next(PROVED)),
-                    time(&mut next_in),
-                    BEFORE.map_or(f64::INFINITY, |runner| time(|| next(runner))),
-                    time(|| black_box(&record).clone().next().1),
-                ],
-                [
-                    time(|| report(PROVED).lengths[1]),
-                    time(|| report_in().lengths[1]),
-                    BEFORE.map_or(f64::INFINITY, |runner| time(|| report(runner).lengths[1])),
-                    time(|| black_box(&record).clone().report(reply).1),
-                ],
-            ];
-            for (least, time) in least
-                .as_flattened_mut()
-                .iter_mut()
-                .zip(times.as_flattened())
-            {
-                *least = least.min(time / 1000.0);
-            }
-            over_tables = over_tables.min(time(&mut follow) / 1000.0);
-        }
-        let calls = [
-            (["load", "load_in"], None),
-            (["next", "next_in"], Some(over_tables)),
-            (["report", "report_in"], Some(over_tables)),
-        ];
-        for ((calls, tables), [own, lent, before, data]) in calls.into_iter().zip(least) {
-            let before = Some(before).filter(|before| before.is_finite());
-            for (call, proved) in calls.into_iter().zip([own, lent]) {
-                println!(
-                    "{name:<54} {:>7} {call:>9} {proved:>10.2} {:>10} {data:>10.2} {:>10} {:>9} {:>8.4} {:>9}",
-                    record.count,
-                    shown(before, 2),
-                    shown(tables, 2),
-                    shown(before.map(|before| proved / before), 2),
-                    proved / data,
-                    shown(tables.map(|tables| proved / tables), 2)
-                );
-            }
-        }
-    }
-}
-
-/// The record at the last action of the run by the least replies, and the least reply to it.
-fn last_action(bytes: &[u8]) -> (Record, u8) {
-    let mut record = Record::load(bytes).0;
-    loop {
-        let taken = |&reply: &u8| record.clone().report(reply).1.is_ok();
-        let reply = (0..8).find(taken).unwrap();
-        let after = record.clone().report(reply).0;
-        match after.clone().next().1 {
-            Told::Action(_) => record = after,
-            _ => return (record, reply),
-        }
-    }
 }
 
 /// A call to be timed.

@@ -160,6 +160,35 @@ pub fn verified_sheets() -> Vec<(&'static str, Sheet)> {
     ]
 }
 
+/// One action, and so many states possible when its reply comes in. Little is read and
+/// written before, so that what the reply costs shows.
+pub fn reported_sheets() -> Vec<(&'static str, Sheet)> {
+    let sheet = |action, free: u8| {
+        let others = (free..8).map(|i| Objective::Fact(i).negate());
+        Sheet {
+            edition: 1,
+            facts: 8,
+            constraint: Objective::True,
+            actions: vec![action],
+            start: others.reduce(Objective::and).unwrap_or(Objective::True),
+            goal: Epistemic::Known(Objective::True),
+            program: sequence(&[0]),
+        }
+    };
+    let last = Objective::Fact(7);
+    let probe = || Action::Probe(vec![last.clone().negate(), last.clone()]);
+    vec![
+        ("1 probe, 1 possible state", sheet(probe(), 0)),
+        ("1 probe, 16 possible states", sheet(probe(), 4)),
+        ("1 probe, 128 possible states", sheet(probe(), 7)),
+        ("1 probe, 256 possible states", sheet(probe(), 8)),
+        (
+            "1 change to any state, 256 possible states",
+            sheet(Action::Change(Objective::True), 8),
+        ),
+    ]
+}
+
 /// Sheets of 8 facts without an action: the program is its end.
 pub fn without_action() -> [(&'static str, Sheet); 2] {
     let longest = read(&most(2000, goal_of_atoms)).unwrap();

@@ -65,7 +65,7 @@ fn stepped_sheet(condition: Epistemic, goal: Epistemic) -> Sheet {
     }
 }
 
-fn tables_of(bytes: &[u8]) -> Tables {
+pub fn tables_of(bytes: &[u8]) -> Tables {
     let mut tables = Tables::zeroed();
     let answer = linked::prepare(bytes, &mut tables, &mut [0; 4]);
     assert_eq!(answer, 0);
@@ -102,7 +102,7 @@ fn action_or_goal(place: Place) -> Result<usize, bool> {
 }
 
 /// So many states, evenly spread.
-fn spread(count: usize) -> (StateSet, Words) {
+pub fn spread(count: usize) -> (StateSet, Words) {
     let members = || (0..count).map(|i| (i * (256 / count)) as State);
     (members().collect(), plain::words(members()))
 }
