@@ -1,11 +1,12 @@
 // Sets of states, by value.
+#![tactic(auto)]
 ghost use Rattle.std.specs.Prelude.{◌≡◌, false, not, ◌&&◌, ◌||◌, ◌^◌, eqb, ltb, get_or, set};
 ghost use Rattle.std.specs.Bool.{beq};
 ghost use Rattle.lists.specs.Lists.{nonempty, write};
 ghost use Rattle.states.specs.Sets.{words as words_of, words_at, of_words, member, set_of, members, same_states, least_of};
 
 // Four words: state s has weight 2^(s mod 64) in word s div 64.
-#[derive(Drop)]
+#[derive(Clone, Copy)]
 pub struct States {
     pub w0: u64,
     pub w1: u64,
