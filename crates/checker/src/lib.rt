@@ -1,4 +1,6 @@
 // The checker of failing traces.
+#![tactic(auto)]
+
 ghost use Rattle.std.specs.Prelude.{◌≡◌, ◌&&◌, length};
 ghost use Rattle.format.specs.Format.{reading};
 ghost use Rattle.semantics.specs.Checker.{is_trace_length, checked};
@@ -13,7 +15,7 @@ use routine::{HEAD_CELLS, NODE_CELLS, Prepared, SET_WORDS, TRACE, prepare};
 use states::States;
 
 // Yes or no, or the sheet is refused.
-#[derive(Drop)]
+#[derive(Clone, Copy)]
 pub enum Checked {
     Yes,
     No,

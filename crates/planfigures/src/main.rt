@@ -1,5 +1,7 @@
 // Prints the release figures of the sheets on standard input, each of which stands behind its length.
 // Where the input can't be read to its end, or the line can't be written, it says so on standard error.
+#![tactic(auto)]
+
 ghost use Rattle.std.specs.Prelude.{◌≡◌, ◌≤◌, ◌<◌, length, take};
 ghost use Rattle.routine.specs.Memory.{Sized};
 ghost use Rattle.planfigures.specs.Input.{after_read, Followed, Reached, Over, line_of, LineFor};
@@ -14,7 +16,7 @@ use verifier::MEMO_WORDS;
 const PIECE: usize = 65536;
 
 // How reading ended: the input did, or nothing more of it is looked at, or it couldn't be read.
-#[derive(Drop)]
+#[derive(Clone, Copy)]
 enum Ending {
     End,
     Done,
@@ -22,28 +24,28 @@ enum Ending {
 }
 
 // What follows a call of `read`: so many bytes came, or reading is over.
-#[derive(Drop)]
+#[derive(Clone, Copy)]
 enum Next {
     Piece(usize),
     Over(Ending),
 }
 
 // A state, and what the call of `read` that led there brought.
-#[derive(Drop)]
+#[derive(Clone, Copy)]
 struct Step {
     next: Next,
     state: Release,
 }
 
 // The state of the bytes that were read, and how reading ended.
-#[derive(Drop)]
+#[derive(Clone, Copy)]
 struct Input {
     ending: Ending,
     state: Release,
 }
 
 // The line for an input: the first `length` bytes.
-#[derive(Drop)]
+#[derive(Clone, Copy)]
 struct Line {
     bytes: [u8; LINES],
     length: usize,

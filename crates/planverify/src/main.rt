@@ -1,5 +1,7 @@
 // Verifies the sheet on standard input: prints its verdict, and the least failing trace if it is invalid.
 // Where the input can't be read to its end, or the lines can't be written, it says so on standard error.
+#![tactic(auto)]
+
 ghost use Rattle.std.specs.Prelude.{◌≡◌, ◌≤◌, ◌<◌, ◌-◌, length, take};
 ghost use Rattle.libc.specs.Io.{Moved};
 ghost use Rattle.lists.specs.Lists.{write};
@@ -14,14 +16,14 @@ use printing::LINES;
 const MOST: usize = reader::BYTES + 1;
 
 // The input: so many bytes, to its end or as many as there is room for; or it couldn't be read.
-#[derive(Drop)]
+#[derive(Clone, Copy)]
 enum Input {
     Read(usize),
     Failed,
 }
 
 // What follows a call of `read`: another one behind so many bytes, or reading is over.
-#[derive(Drop)]
+#[derive(Clone, Copy)]
 enum Next {
     More(usize),
     Over(Input),
@@ -78,7 +80,7 @@ fn lines_for(input: Input, sheet: &[u8], out: &mut [u8; LINES]) -> usize
 }
 
 // What was read, and the lines for it: the first `length` bytes.
-#[derive(Drop)]
+#[derive(Clone, Copy)]
 struct Response {
     input: Input,
     lines: [u8; LINES],

@@ -1,4 +1,6 @@
 // The lines that planverify prints, and the line of the release figures.
+#![tactic(auto)]
+
 ghost use Rattle.std.specs.Prelude.{◌≡◌, [], ◌∷◌, ◌++◌, ◌+◌, ◌*◌, ◌≤◌, ◌<◌, length, take};
 ghost use Rattle.semantics.specs.Printing.{digit as digitOf, decimal, hexadecimal, end_line, printed_for, most_lines, printed, numbers_line};
 ghost use Rattle.format.specs.Format.{gives, most_acts};

@@ -1,4 +1,6 @@
 // One step of a routine on the set of possible states, over its tables, and one pass over it when a reply comes in.
+#![tactic(auto)]
+
 mod place;
 mod reply;
 mod steps;

@@ -8,7 +8,7 @@ use routine::{GOAL, NODE_CELLS, NODES, Node, SET_WORDS, node_at, set_at};
 use states::States;
 
 // An action node with its action, or the end and whether the goal holds there.
-#[derive(Drop)]
+#[derive(Clone, Copy)]
 pub enum Place {
     Act(usize, usize),
     End(bool),

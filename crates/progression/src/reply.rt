@@ -10,7 +10,7 @@ use routine::{HEAD_CELLS, SET_WORDS};
 use states::States;
 
 // The states that are kept; whether there is one; and how often the reply was evaluated.
-#[derive(Drop)]
+#[derive(Clone, Copy)]
 pub struct Passed {
     pub kept: States,
     pub possible: bool,

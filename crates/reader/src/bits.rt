@@ -5,7 +5,7 @@ ghost use Rattle.format.specs.Format.{most_bytes, field};
 ghost use Rattle.reader.specs.Method.{field_read};
 
 // A field's value and the position after it, or a sheet that ends inside it.
-#[derive(Drop)]
+#[derive(Clone, Copy)]
 pub(crate) enum Field {
     Value(usize, usize),
     Cut,

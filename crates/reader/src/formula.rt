@@ -13,14 +13,14 @@ use crate::refusal::Refusal;
 use states::States;
 
 // A set of states and the position after what was read, or why it was refused.
-#[derive(Drop)]
+#[derive(Clone, Copy)]
 pub enum Evaluated {
     Holds(States, usize),
     Refused(Refusal),
 }
 
 // The states that a formula is evaluated in, all at once.
-#[derive(Drop)]
+#[derive(Clone, Copy)]
 pub enum View {
     // Outside a theory: each state.
     States,
@@ -29,7 +29,7 @@ pub enum View {
 }
 
 // The position after what was read, or why it was refused.
-#[derive(Drop)]
+#[derive(Clone, Copy)]
 pub(crate) enum Walked {
     To(usize),
     Refused(Refusal),

@@ -3,7 +3,7 @@ use crate::refusal::Refusal;
 use states::States;
 
 // The edition, the number of facts, the number of actions, the states, and the position behind the header.
-#[derive(Drop)]
+#[derive(Clone, Copy)]
 pub struct Header {
     pub edition: usize,
     pub facts: usize,
@@ -12,7 +12,7 @@ pub struct Header {
     pub at: usize,
 }
 
-#[derive(Drop)]
+#[derive(Clone, Copy)]
 pub enum ParsedHeader {
     Read(Header),
     Refused(Refusal),

@@ -1,4 +1,6 @@
 // The packed sheet: reading it, and walking through an accepted one.
+#![tactic(auto)]
+
 mod actions;
 mod bits;
 mod formula;

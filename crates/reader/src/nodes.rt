@@ -9,7 +9,7 @@ use crate::limits::{ACTION_NODES, BRANCH_NODES, BYTES, REPLIES};
 use crate::refusal::Refusal;
 
 // The kind of an action, and the position after it.
-#[derive(Drop)]
+#[derive(Clone, Copy)]
 pub enum ActionKind {
     Change(usize),
     Probe(usize),
@@ -17,14 +17,14 @@ pub enum ActionKind {
 }
 
 // The reply count of a probe, and the position after it.
-#[derive(Drop)]
+#[derive(Clone, Copy)]
 pub enum ReplyTotal {
     Count(usize, usize),
     Refused(Refusal),
 }
 
 // The first node of an epistemic formula, and the position after it.
-#[derive(Drop)]
+#[derive(Clone, Copy)]
 pub enum EpistemicNode {
     Known(usize),
     NotKnown(usize),
@@ -34,7 +34,7 @@ pub enum EpistemicNode {
 }
 
 // The first node of a program, an action with its number, and the position after it.
-#[derive(Drop)]
+#[derive(Clone, Copy)]
 pub enum ProgramNode {
     End(usize),
     Act(usize, usize),

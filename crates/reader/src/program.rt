@@ -9,7 +9,7 @@ use crate::nodes::{ProgramNode, program_at};
 use crate::refusal::Refusal;
 
 // A position in a program, and the action nodes and branch nodes read before it.
-#[derive(Drop)]
+#[derive(Clone, Copy)]
 pub(crate) struct Cursor {
     pub at: usize,
     pub acts: usize,
@@ -17,7 +17,7 @@ pub(crate) struct Cursor {
 }
 
 // The cursor after what was read, or why it was refused.
-#[derive(Drop)]
+#[derive(Clone, Copy)]
 pub(crate) enum Counted {
     To(Cursor),
     Refused(Refusal),

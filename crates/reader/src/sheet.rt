@@ -16,7 +16,7 @@ use crate::refusal::Refusal;
 use states::States;
 
 // The reader's answer.
-#[derive(Drop)]
+#[derive(Clone, Copy)]
 pub enum Acceptance {
     Accepted,
     Refused(Refusal),

@@ -1,5 +1,7 @@
 // What C and Rust programs link: the library's functions under C's calling convention. A slice is a pointer and a length,
 // an array of fixed length is a pointer to its first element.
+#![tactic(auto)]
+
 ghost use Rattle.std.specs.Prelude.{◌≡◌, [], ◌∷◌, ◌≤◌, length};
 ghost use Rattle.format.specs.Format.{reading};
 ghost use Rattle.reader.specs.Answers.{answer_of, number_for};

@@ -22,7 +22,7 @@ const LENGTHS: u64 = 65535;
 const BUDGET: u32 = 1000000;
 
 // The figures of the whole sheets so far, how many these are, and what is begun behind them.
-#[derive(Drop)]
+#[derive(Clone, Copy)]
 pub struct Release {
     pub figures: Figures,
     pub lengths: u64,

@@ -8,7 +8,7 @@ use std::num::wrapping_add_u64;
 use verifier::Verdict;
 
 // How many were valid, invalid, stopped and refused, the sum of their counts, and the greatest length among the invalid.
-#[derive(Drop)]
+#[derive(Clone, Copy)]
 pub struct Figures {
     pub valid: u64,
     pub invalid: u64,

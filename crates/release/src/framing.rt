@@ -10,14 +10,14 @@ const LENGTH: usize = 2;
 
 // What is begun: so many bytes of a length and its sheet, and the first of them; zeros behind. The bytes of a sheet that is
 // too long are counted and not kept.
-#[derive(Drop)]
+#[derive(Clone, Copy)]
 pub struct Begun {
     pub held: usize,
     pub bytes: [u8; Begun::BYTES],
 }
 
 // What is begun with more of a piece, and how far the piece is used.
-#[derive(Drop)]
+#[derive(Clone, Copy)]
 pub(crate) struct Filled {
     pub(crate) begun: Begun,
     pub(crate) at: usize,

@@ -1,4 +1,6 @@
 // The release figures of a stream of sheets, which is fed in pieces.
+#![tactic(auto)]
+
 mod feeding;
 mod figures;
 mod framing;

@@ -10,7 +10,7 @@ use reader::{ActionKind, Evaluated, ReplyTotal, View, action_kind, objective_sta
 use states::States;
 
 // Where the sets of actions end: in the sheet, and among the sets.
-#[derive(Drop)]
+#[derive(Clone, Copy)]
 pub(crate) struct Laid {
     pub at: usize,
     pub set: usize,

@@ -10,7 +10,7 @@ use reader::{EpistemicNode, Evaluated, View, epistemic_node, objective_states};
 
 // How far a sheet is written into the tables: the position in the sheet, and how many nodes, sets and action nodes there
 // are so far.
-#[derive(Drop)]
+#[derive(Clone, Copy)]
 pub(crate) struct Filled {
     pub at: usize,
     pub node: usize,

@@ -1,4 +1,6 @@
 // A routine as tables, in memory that the caller lends: what the verifier, the trace checker and the runner work on.
+#![tactic(auto)]
+
 mod actions;
 mod conditions;
 mod limits;

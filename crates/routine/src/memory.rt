@@ -13,7 +13,7 @@ use states::States;
 // many nodes; the end, and how many action nodes there are. Of an epistemic formula, in reading order: two parts joined by
 // "and" (true) or "or" (false), with the number of the nodes of both, which stand behind the node, one part behind the
 // other; an atom "known" (true) or "not known" (false), with the number of its set.
-#[derive(Drop)]
+#[derive(Clone, Copy)]
 pub enum Node {
     Act(usize, usize),
     Branch(usize, usize),
@@ -25,7 +25,7 @@ pub enum Node {
 
 // Where an action's sets stand: from `rows` on the states that may follow each state, if the action changes facts; from
 // `replies` on the states in which each of its `count` replies is true. Without rows both are the same.
-#[derive(Drop)]
+#[derive(Clone, Copy)]
 pub struct Head {
     pub rows: usize,
     pub replies: usize,

@@ -15,7 +15,7 @@ use reader::{
 use states::States;
 
 // The start set of an accepted sheet, or the refusal.
-#[derive(Drop)]
+#[derive(Clone, Copy)]
 pub enum Prepared {
     Ready(States),
     Refused(Refusal),

@@ -3,7 +3,7 @@ ghost use Rattle.std.specs.Prelude.{◌≡◌};
 ghost use Rattle.runner.specs.Answers.{rejection_number};
 
 // Why a report is refused.
-#[derive(Drop)]
+#[derive(Clone, Copy)]
 pub enum Rejection {
     // The record isn't one that loading and accepted reports make.
     BadRecord,
@@ -16,14 +16,14 @@ pub enum Rejection {
 }
 
 // The action to do; that the routine is at its end, and whether the goal holds; or the record is refused.
-#[derive(Drop)]
+#[derive(Clone, Copy)]
 pub enum Told {
     Act(usize),
     End(bool),
     BadRecord,
 }
 
-#[derive(Drop)]
+#[derive(Clone, Copy)]
 pub enum Reported {
     Accepted,
     Refused(Rejection),

@@ -15,7 +15,7 @@ use reader::Acceptance;
 use routine::{HEAD_CELLS, NODE_CELLS, SET_WORDS};
 
 // A sheet, its length, the replies accepted so far and their count. Bytes past the lengths are 0.
-#[derive(Drop)]
+#[derive(Clone, Copy)]
 pub struct Record {
     pub sheet: [u8; Record::SHEET],
     pub len: usize,
@@ -24,19 +24,19 @@ pub struct Record {
 }
 
 // An answer, and the record to keep.
-#[derive(Drop)]
+#[derive(Clone, Copy)]
 pub struct AfterLoad {
     pub answer: Acceptance,
     pub kept: Record,
 }
 
-#[derive(Drop)]
+#[derive(Clone, Copy)]
 pub struct AfterNext {
     pub answer: Told,
     pub kept: Record,
 }
 
-#[derive(Drop)]
+#[derive(Clone, Copy)]
 pub struct AfterReport {
     pub answer: Reported,
     pub kept: Record,

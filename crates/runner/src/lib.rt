@@ -1,4 +1,6 @@
 // The runner: it steps a routine by the replies that are reported to it, and keeps nothing but a record.
+#![tactic(auto)]
+
 mod answer;
 mod calls;
 mod walk;

@@ -12,7 +12,7 @@ use routine::{HEAD_CELLS, NODE_CELLS, Prepared, SET_WORDS, head_at, prepare};
 use states::States;
 
 // The place, with the states possible there; nowhere, if the replies are not those of a run; or the sheet is refused.
-#[derive(Drop)]
+#[derive(Clone, Copy)]
 pub(crate) enum Walked {
     At(Place, States),
     Nowhere,
@@ -20,7 +20,7 @@ pub(crate) enum Walked {
 }
 
 // A reply is accepted, with the states that it keeps, or refused.
-#[derive(Drop)]
+#[derive(Clone, Copy)]
 pub(crate) enum Judged {
     Kept(States),
     Refused(Rejection),

@@ -1,5 +1,6 @@
 // Sets of states, by value.
 #![tactic(auto)]
+
 ghost use Rattle.std.specs.Prelude.{◌≡◌, false, not, ◌&&◌, ◌||◌, ◌^◌, eqb, ltb, get_or, set};
 ghost use Rattle.std.specs.Bool.{beq};
 ghost use Rattle.lists.specs.Lists.{nonempty, write};

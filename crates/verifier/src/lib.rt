@@ -1,4 +1,6 @@
 // The verifier: the verdict on a sheet, and the least failing trace.
+#![tactic(auto)]
+
 mod least;
 mod limits;
 mod memo;

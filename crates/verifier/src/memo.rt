@@ -11,7 +11,7 @@ use std::num::wrapping_add_u64;
 
 // After `depth` actions, the states of a set being possible, an action comes whose replies lead on to node `onward`:
 // `behind` histories follow, and none of them fails. (`onward` is 0 in an empty slot alone.)
-#[derive(Drop)]
+#[derive(Clone, Copy)]
 pub(crate) struct Slot {
     pub(crate) onward: u64,
     pub(crate) action: u64,
@@ -21,7 +21,7 @@ pub(crate) struct Slot {
 }
 
 // So many histories, all of which passed; or nothing is remembered.
-#[derive(Drop)]
+#[derive(Clone, Copy)]
 pub(crate) enum Recalled {
     Passed(u64),
     Nothing,

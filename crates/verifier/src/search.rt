@@ -13,7 +13,7 @@ use states::States;
 
 // All histories passed, with the count of those searched so far; one failed, with the count up to it and its length; or
 // the count exceeds the budget.
-#[derive(Drop)]
+#[derive(Clone, Copy)]
 pub(crate) enum Searched {
     Passed(u32),
     Failed(u32, usize),

@@ -18,7 +18,7 @@ use states::States;
 
 // Valid with the count, invalid with the count and the history's length, stopped with the budget; or the trace memory is
 // too short, or the sheet is refused.
-#[derive(Drop)]
+#[derive(Clone, Copy)]
 pub enum Verdict {
     Valid(u32),
     Invalid(u32, usize),

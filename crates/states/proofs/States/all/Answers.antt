@@ -9,8 +9,7 @@ use borrow.Author.Tests.{lt-ltb}
 use Rattle.states.specs.declared.States.{States}
 use Rattle.states.specs.Sets.{set_of}
 use Rattle.states.proofs.SetLaws.{set_cong}
-use Rattle.states.proofs.States.all.Statement.{statement}
-use Rattle.states.proofs.States.all.Tie as tie
+use Rattle.states.proofs.States.all.Goals as goal
 
 -- The states below 2^n.
 abbrev few : ℕ → States
@@ -30,57 +29,42 @@ many n h =
     let p : 2 ^ 8 ≤ 2 ^ n = pow-le-pow_right {n = 2} (omega arith) h in
     set_cong (λ s. true) (λ s. ltb s (2 ^ n)) (λ s k. sym (lt-ltb s (2 ^ n) (omega arith)))
 
-returns : tie.Need-returns
+pub returns-in-0 : goal.returns-in-0
 unfolding set_of
-returns c = let e : c.before.args.n ≡ 0 = omega arith in sym (ap few e)
+returns-in-0 c = let e : c.args.n ≡ 0 = omega arith in sym (ap few e)
 
-returns_2 : tie.Need-returns-2
+pub returns-in-1 : goal.returns-in-1
 unfolding set_of
-returns_2 c = let e : c.before.args.n ≡ 1 = omega arith in sym (ap few e)
+returns-in-1 c = let e : c.args.n ≡ 1 = omega arith in sym (ap few e)
 
-returns_3 : tie.Need-returns-3
+pub returns-in-2 : goal.returns-in-2
 unfolding set_of
-returns_3 c = let e : c.before.args.n ≡ 2 = omega arith in sym (ap few e)
+returns-in-2 c = let e : c.args.n ≡ 2 = omega arith in sym (ap few e)
 
-returns_4 : tie.Need-returns-4
+pub returns-in-3 : goal.returns-in-3
 unfolding set_of
-returns_4 c = let e : c.before.args.n ≡ 3 = omega arith in sym (ap few e)
+returns-in-3 c = let e : c.args.n ≡ 3 = omega arith in sym (ap few e)
 
-returns_5 : tie.Need-returns-5
+pub returns-in-4 : goal.returns-in-4
 unfolding set_of
-returns_5 c = let e : c.before.args.n ≡ 4 = omega arith in sym (ap few e)
+returns-in-4 c = let e : c.args.n ≡ 4 = omega arith in sym (ap few e)
 
-returns_6 : tie.Need-returns-6
+pub returns-in-5 : goal.returns-in-5
 unfolding set_of
-returns_6 c = let e : c.before.args.n ≡ 5 = omega arith in sym (ap few e)
+returns-in-5 c = let e : c.args.n ≡ 5 = omega arith in sym (ap few e)
 
-returns_7 : tie.Need-returns-7
+pub returns-in-6 : goal.returns-in-6
 unfolding set_of
-returns_7 c = let e : c.before.args.n ≡ 6 = omega arith in sym (ap few e)
+returns-in-6 c = let e : c.args.n ≡ 6 = omega arith in sym (ap few e)
 
-returns_8 : tie.Need-returns-8
+pub returns-in-7 : goal.returns-in-7
 unfolding set_of
-returns_8 c = let e : c.before.args.n ≡ 7 = omega arith in sym (ap few e)
+returns-in-7 c = let e : c.args.n ≡ 7 = omega arith in sym (ap few e)
 
-returns_9 : tie.Need-returns-9
+pub returns-in_default : goal.returns-in_default
 unfolding set_of
-returns_9 c =
-    let n = c.before.args.n in
-    let r = c.match.rest in
+returns-in_default c = let n = c.args.n in
+    let r = c.in_default.in_default-own.rest in
     let h : 2 ≤ n = past 1 n (positive n r.0.0.0.0.0.0.0.1) r.0.0.0.0.0.0.1 in
     let k : 5 ≤ n = past 4 n (past 3 n (past 2 n h r.0.0.0.0.0.1) r.0.0.0.0.1) r.0.0.0.1 in
     many n (past 7 n (past 6 n (past 5 n k r.0.0.1) r.0.1) r.1)
-
-pub all_spec : {M : Type 1} → statement M
-all_spec =
-    tie.close
-    (tie.spec
-    returns
-    returns_2
-    returns_3
-    returns_4
-    returns_5
-    returns_6
-    returns_7
-    returns_8
-    returns_9)

@@ -6,26 +6,15 @@ use native.Mathlib.Omega.{arith}
 use Rattle.states.specs.Sets.{bit, word}
 use Rattle.states.proofs.SetLaws.{member_bit}
 use borrow.Author.Rules.{rules}
-use Rattle.states.proofs.States.has.Statement.{statement}
-use Rattle.states.proofs.States.has.Tie as tie
+use Rattle.states.proofs.States.has.Goals as goal
 
-cast_result : tie.Need-overflow-cast-result
-cast_result c = search rules
-
-shr_result : tie.Need-overflow-shr-result
-shr_result c = search rules
-
-returns : tie.Need-returns
+pub returns : goal.returns
 unfolding bit word
-returns c =
-    let a = c.before.before.args in
+returns c = let a = c.args in
     let at : ((i : ℕ) → a.s / 64 ≡ i → word a.self i ≡ word a.self (a.s / 64)) = λ i e. ap (word a.self) (sym e) in
-    let is : c.before.match.w ≡ word a.self (a.s / 64) =
+    let is : c.match-s-div64.w ≡ word a.self (a.s / 64) =
     ⊎_elim (λ v. v.1 ∙ at 0 (omega arith))
     (λ u. ⊎_elim (λ v. v.1 ∙ at 1 (omega arith))
     (λ u. ⊎_elim (λ v. v.1 ∙ at 2 (omega arith)) (λ v. v.1 ∙ at 3 (omega arith)) u) u)
-    c.before.match.branch in
+    c.match-s-div64.branch in
     ap (λ (x : ℕ). bit x (a.s % 64)) is ∙ sym (member_bit a.self a.s)
-
-pub has_spec : {M : Type 1} → statement M
-has_spec = tie.close (tie.spec cast_result shr_result returns)

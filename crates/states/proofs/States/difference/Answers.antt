@@ -8,18 +8,13 @@ use Rattle.states.specs.Sets.{bit}
 use Rattle.states.proofs.BitLaws.{bit_of_and, bit_not}
 use Rattle.states.proofs.SetLaws.{Fitting, pointwise}
 use borrow.Author.Rules.{rules}
-use Rattle.states.proofs.States.difference.Statement.{statement}
-use Rattle.states.proofs.States.difference.Tie as tie
+use Rattle.states.proofs.States.difference.Goals as goal
 
-returns : tie.Need-returns
-returns c =
-    let a = c.before.before.before.before.before.before.before.before.args.self in
-    let b = c.before.before.before.before.before.before.before.before.args.other in
+pub returns : goal.returns
+returns c = let a = c.args.self in
+    let b = c.args.other in
     let ha : Fitting a = search rules in
     let hb : Fitting b = search rules in
     pointwise (λ x y. bit_and x (2 ^ 64 - 1 - y)) (λ p q. p && not q)
     (λ x y k hx hy hk. bit_of_and x (2 ^ 64 - 1 - y) k ∙ ap (λ (q : Bool). bit x k && q) (bit_not 64 y k hy hk))
     (λ x y hx hy. and_lt 64 x (2 ^ 64 - 1 - y) hx (omega arith)) a b ha hb
-
-pub difference_spec : {M : Type 1} → statement M
-difference_spec = tie.close (tie.spec returns)

@@ -4,16 +4,11 @@ use lib.Bits.{bit_or, or_lt}
 use Rattle.states.proofs.BitLaws.{bit_of_or}
 use Rattle.states.proofs.SetLaws.{Fitting, pointwise}
 use borrow.Author.Rules.{rules}
-use Rattle.states.proofs.States.union.Statement.{statement}
-use Rattle.states.proofs.States.union.Tie as tie
+use Rattle.states.proofs.States.union.Goals as goal
 
-returns : tie.Need-returns
-returns c =
-    let a = c.before.before.before.before.before.before.before.before.args.self in
-    let b = c.before.before.before.before.before.before.before.before.args.other in
+pub returns : goal.returns
+returns c = let a = c.args.self in
+    let b = c.args.other in
     let ha : Fitting a = search rules in
     let hb : Fitting b = search rules in
     pointwise bit_or ◌||◌ (λ x y k hx hy hk. bit_of_or x y k) (or_lt 64) a b ha hb
-
-pub union_spec : {M : Type 1} → statement M
-union_spec = tie.close (tie.spec returns)

@@ -4,16 +4,11 @@ use lib.Bits.{bit_and, and_lt}
 use Rattle.states.proofs.BitLaws.{bit_of_and}
 use Rattle.states.proofs.SetLaws.{Fitting, pointwise}
 use borrow.Author.Rules.{rules}
-use Rattle.states.proofs.States.intersect.Statement.{statement}
-use Rattle.states.proofs.States.intersect.Tie as tie
+use Rattle.states.proofs.States.intersect.Goals as goal
 
-returns : tie.Need-returns
-returns c =
-    let a = c.before.before.before.before.before.before.before.before.args.self in
-    let b = c.before.before.before.before.before.before.before.before.args.other in
+pub returns : goal.returns
+returns c = let a = c.args.self in
+    let b = c.args.other in
     let ha : Fitting a = search rules in
     let hb : Fitting b = search rules in
     pointwise bit_and ◌&&◌ (λ x y k hx hy hk. bit_of_and x y k) (and_lt 64) a b ha hb
-
-pub intersect_spec : {M : Type 1} → statement M
-intersect_spec = tie.close (tie.spec returns)

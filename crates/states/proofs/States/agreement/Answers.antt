@@ -8,18 +8,13 @@ use Rattle.states.specs.Sets.{bit}
 use Rattle.states.proofs.BitLaws.{bit_not, bit_of_xor}
 use Rattle.states.proofs.SetLaws.{Fitting, pointwise}
 use borrow.Author.Rules.{rules}
-use Rattle.states.proofs.States.agreement.Statement.{statement}
-use Rattle.states.proofs.States.agreement.Tie as tie
+use Rattle.states.proofs.States.agreement.Goals as goal
 
-returns : tie.Need-returns
-returns c =
-    let a = c.before.before.before.before.before.before.before.before.args.self in
-    let b = c.before.before.before.before.before.before.before.before.args.other in
+pub returns : goal.returns
+returns c = let a = c.args.self in
+    let b = c.args.other in
     let ha : Fitting a = search rules in
     let hb : Fitting b = search rules in
     pointwise (λ x y. 2 ^ 64 - 1 - bit_xor x y) beq
     (λ x y k hx hy hk. bit_not 64 (bit_xor x y) k (xor_lt 64 x y hx hy) hk ∙ ap not (bit_of_xor x y k) ∙ not-not (beq (bit x k) (bit y k)))
     (λ x y hx hy. omega arith) a b ha hb
-
-pub agreement_spec : {M : Type 1} → statement M
-agreement_spec = tie.close (tie.spec returns)
