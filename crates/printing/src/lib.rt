@@ -2,7 +2,7 @@
 #![tactic(auto)]
 
 ghost use Rattle.std.specs.Prelude.{◌≡◌, [], ◌∷◌, ◌++◌, ◌+◌, ◌*◌, ◌≤◌, ◌<◌, length, take};
-ghost use Rattle.semantics.specs.Printing.{digit as digitOf, decimal, hexadecimal, end_line, printed_for, most_lines, printed, numbers_line};
+ghost use Rattle.semantics.specs.Printing.{digit as digit_of, decimal, hexadecimal, end_line, printed_for, most_lines, printed, numbers_line};
 ghost use Rattle.format.specs.Format.{gives, most_acts};
 ghost use Rattle.semantics.specs.Verdict.{invalid, longest_trace};
 ghost use Rattle.lists.specs.Lists.{write};
@@ -24,7 +24,7 @@ const BUDGET: u32 = 1000000;
 // The digit of a number below 16.
 fn digit(d: u8) -> u8
     requires { d < 16 }
-    ensures { result ≡ digitOf d }
+    ensures { result ≡ digit_of d }
 {
     if d < 10 {
         return b'0' + d;

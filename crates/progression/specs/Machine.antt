@@ -26,9 +26,9 @@ unfolding every member set_at members
 known_by sets set k = every (member (set_at sets k)) (members set)
 
 -- An atom, "known" or "not known" of set k.
-unfoldable pub atom_holds : (isKnown : ℕ → Bool) (positive : Bool) (k : ℕ) → Bool
-atom_holds isKnown true k = isKnown k
-atom_holds isKnown false k = not (isKnown k)
+unfoldable pub atom_holds : (is_known : ℕ → Bool) (positive : Bool) (k : ℕ) → Bool
+atom_holds is_known true k = is_known k
+atom_holds is_known false k = not (is_known k)
 
 -- Two parts: "And, or, not read as usual."
 unfoldable pub joined : (all first second : Bool) → Bool
@@ -37,44 +37,44 @@ joined false first second = first || second
 
 -- What a node says of the parts of a formula from it on, joined by "and" (`all`) or "or". `rest` tells of those behind it, so many nodes further. A part that is joined in
 -- the same way stands for its parts; `inner` tells of one that is joined the other way, by how many nodes its parts have. Other nodes are no part.
-unfoldable pub part_node : (isKnown : ℕ → Bool) (all : Bool) (inner rest : ℕ → Bool) → Node → Bool
+unfoldable pub part_node : (is_known : ℕ → Bool) (all : Bool) (inner rest : ℕ → Bool) → Node → Bool
 unfolding atom_holds joined if◌then◌else◌
-part_node isKnown all inner rest (Node.Atom positive k) = joined all (atom_holds isKnown positive k) (rest 0)
-part_node isKnown all inner rest (Node.Join both size) = if beq both all then rest 0 else joined all (inner size) (rest size)
-part_node isKnown all inner rest (Node.Act a number) = false
-part_node isKnown all inner rest (Node.Branch met unmet) = false
-part_node isKnown all inner rest (Node.Jump skip) = false
-part_node isKnown all inner rest (Node.End count) = false
+part_node is_known all inner rest (Node.Atom positive k) = joined all (atom_holds is_known positive k) (rest 0)
+part_node is_known all inner rest (Node.Join both size) = if beq both all then rest 0 else joined all (inner size) (rest size)
+part_node is_known all inner rest (Node.Act a number) = false
+part_node is_known all inner rest (Node.Branch met unmet) = false
+part_node is_known all inner rest (Node.Jump skip) = false
+part_node is_known all inner rest (Node.End count) = false
 
 -- Whether all parts hold (`all`), or one of them, that stand in `size` nodes from node i on, the first `skip` nodes being skipped. `inner` tells it of the parts of one
 -- that is joined the other way: how many nodes they have, cut at the last of the `size`, and from which on.
-unfoldable pub parts_in : (node : ℕ → Node) (isKnown : ℕ → Bool) (all : Bool) (inner : (size i : ℕ) → Bool) (size skip i : ℕ) → Bool
+unfoldable pub parts_in : (node : ℕ → Node) (is_known : ℕ → Bool) (all : Bool) (inner : (size i : ℕ) → Bool) (size skip i : ℕ) → Bool
 unfolding part_node
-parts_in node isKnown all inner zero skip i = all
-parts_in node isKnown all inner (suc size) (suc skip) i = parts_in node isKnown all inner size skip (suc i)
-parts_in node isKnown all inner (suc size) zero i = part_node isKnown all (λ n. inner (min n size) (suc i)) (λ skip. parts_in node isKnown all inner size skip (suc i)) (node i)
+parts_in node is_known all inner zero skip i = all
+parts_in node is_known all inner (suc size) (suc skip) i = parts_in node is_known all inner size skip (suc i)
+parts_in node is_known all inner (suc size) zero i = part_node is_known all (λ n. inner (min n size) (suc i)) (λ skip. parts_in node is_known all inner size skip (suc i)) (node i)
 
 -- The same in a memory. `left` levels are left, of which a part that is joined the other way takes one; a part that needs more doesn't hold. ("Depth 16 is the deepest
 -- allowed.")
-unfoldable pub parts_hold : (nodes : List ℕ) (isKnown : ℕ → Bool) (left : ℕ) (all : Bool) (size i : ℕ) → Bool
+unfoldable pub parts_hold : (nodes : List ℕ) (is_known : ℕ → Bool) (left : ℕ) (all : Bool) (size i : ℕ) → Bool
 unfolding parts_in node_at
-parts_hold nodes isKnown zero all size i = false
-parts_hold nodes isKnown (suc left) all size i = parts_in (node_at nodes) isKnown all (parts_hold nodes isKnown left (not all)) size 0 i
+parts_hold nodes is_known zero all size i = false
+parts_hold nodes is_known (suc left) all size i = parts_in (node_at nodes) is_known all (parts_hold nodes is_known left (not all)) size 0 i
 
 -- What the first node of a formula says, where `parts` tells of its parts. Other nodes are no formula.
-unfoldable pub formula_node : (isKnown : ℕ → Bool) (parts : (all : Bool) (size : ℕ) → Bool) → Node → Bool
+unfoldable pub formula_node : (is_known : ℕ → Bool) (parts : (all : Bool) (size : ℕ) → Bool) → Node → Bool
 unfolding atom_holds
-formula_node isKnown parts (Node.Atom positive k) = atom_holds isKnown positive k
-formula_node isKnown parts (Node.Join all size) = parts all size
-formula_node isKnown parts (Node.Act a number) = false
-formula_node isKnown parts (Node.Branch met unmet) = false
-formula_node isKnown parts (Node.Jump skip) = false
-formula_node isKnown parts (Node.End count) = false
+formula_node is_known parts (Node.Atom positive k) = atom_holds is_known positive k
+formula_node is_known parts (Node.Join all size) = parts all size
+formula_node is_known parts (Node.Act a number) = false
+formula_node is_known parts (Node.Branch met unmet) = false
+formula_node is_known parts (Node.Jump skip) = false
+formula_node is_known parts (Node.End count) = false
 
 -- Whether the formula at node i holds, by what is known. Where no formula stands nothing holds.
-unfoldable pub holds_at : (nodes : List ℕ) (isKnown : ℕ → Bool) (i : ℕ) → Bool
+unfoldable pub holds_at : (nodes : List ℕ) (is_known : ℕ → Bool) (i : ℕ) → Bool
 unfolding formula_node parts_hold node_at
-holds_at nodes isKnown i = formula_node isKnown (λ all size. parts_hold nodes isKnown (deepest - 1) all size (i + 1)) (node_at nodes i)
+holds_at nodes is_known i = formula_node is_known (λ all size. parts_hold nodes is_known (deepest - 1) all size (i + 1)) (node_at nodes i)
 
 -- A node is where the program settles, or it leads on, so many nodes further. `formula` tells whether the formula at a node holds: a branch goes by that behind it, the
 -- end by the goal. A node of a formula is an end too.

@@ -1,6 +1,6 @@
 // Reading the header of a sheet.
 ghost use Rattle.std.specs.Prelude.{◌≡◌, ◌≤◌, length};
-ghost use Rattle.format.specs.Format.{mapped, most_bytes, constraint_over, header_behind, is_edition, header as headerFields, of_sheet};
+ghost use Rattle.format.specs.Format.{mapped, most_bytes, constraint_over, header_behind, is_edition, header as header_fields, of_sheet};
 ghost use Rattle.reader.specs.Answers.{set_read, space_set, spaced, header_is_read};
 
 use crate::bits::{Field, field_at};
@@ -54,7 +54,7 @@ fn header_behind(bytes: &[u8], at: usize, edition: usize, n: usize) -> ParsedHea
 
 // The header of a sheet.
 pub fn header(bytes: &[u8]) -> ParsedHeader
-    ensures { header_is_read result ≡ mapped spaced (of_sheet (headerFields is_edition) bytes.now 0) }
+    ensures { header_is_read result ≡ mapped spaced (of_sheet (header_fields is_edition) bytes.now 0) }
 {
     if BYTES < bytes.len() {
         return ParsedHeader::Refused(Refusal::Length);

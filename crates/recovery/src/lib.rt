@@ -14,7 +14,7 @@ ghost use Rattle.routine.specs.Memory.{Sized};
 ghost use Rattle.routine.specs.Tables.{TablesAfter};
 ghost use Rattle.progression.specs.Machine.{stepped, passed_by, settled, known_by, Inside};
 ghost use Rattle.verifier.specs.Answers.{answer_of as verdict_of, cleared};
-ghost use Rattle.checker.specs.Answers.{answer_of as checkedOf};
+ghost use Rattle.checker.specs.Answers.{answer_of as checked_of};
 ghost use Rattle.runner.specs.Records.{loaded, sheet_in, next_on, report_on, record_after};
 ghost use Rattle.runner.specs.Answers.{told_of, reported_of};
 ghost use Rattle.semantics.specs.Figures.{figure_numbers};
@@ -208,7 +208,7 @@ pub extern "C" fn recovery_verify_in(
 
 // The checker's answer as a number.
 fn checked_number(answer: Checked) -> u8
-    ensures { result ≡ checked_number (checkedOf answer) }
+    ensures { result ≡ checked_number (checked_of answer) }
 {
     match answer {
         Checked::Yes => 0,

@@ -1,7 +1,7 @@
 // The state of a stream that is fed in pieces.
 ghost use Rattle.std.specs.Prelude.{◌≡◌, ℕ, List, [], ◌++◌, length, drop, nat_le};
 ghost use Rattle.format.specs.Format.{reading};
-ghost use Rattle.semantics.specs.Figures.{apart, most_lengths, answer_to, figures as figuresOfStream};
+ghost use Rattle.semantics.specs.Figures.{apart, most_lengths, answer_to, figures as figures_of_stream};
 ghost use Rattle.routine.specs.Memory.{Sized};
 ghost use Rattle.routine.specs.Tables.{TablesAfter};
 ghost use Rattle.verifier.specs.Answers.{answer_of, cleared};
@@ -127,7 +127,7 @@ impl Release {
 
     // The figures where the stream ends: what is begun is cut then, and refused.
     pub fn end(self) -> Figures
-        ensures { (result ≡ ended self) × ((stream : List ℕ) → self ≡ state_of stream → meant_by result ≡ figuresOfStream stream) }
+        ensures { (result ≡ ended self) × ((stream : List ℕ) → self ≡ state_of stream → meant_by result ≡ figures_of_stream stream) }
     {
         let figures = self.figures;
         let begun = self.begun;

@@ -3,7 +3,7 @@
 ghost use Rattle.std.specs.Prelude.{◌≡◌, [], ◌∷◌, ◌*◌, ◌<◌};
 ghost use Rattle.states.specs.Sets.{words};
 ghost use Rattle.lists.specs.Lists.{write};
-ghost use Rattle.routine.specs.Memory.{flag as flagOf, cells, Small, head_most, node_most, set_most, set_at, node_of, node_at, head_at};
+ghost use Rattle.routine.specs.Memory.{flag as flag_of, cells, Small, head_most, node_most, set_most, set_at, node_of, node_at, head_at};
 
 use crate::limits::{ACTIONS, HEAD_CELLS, NODE_CELLS, NODES, SET_WORDS, SETS};
 use states::States;
@@ -117,7 +117,7 @@ fn put_cells(nodes: &mut [u16; NODE_CELLS], i: usize, kind: u16, operand: usize,
 
 // A truth value as a number.
 fn flag(x: bool) -> usize
-    ensures { (result ≡ flagOf x) × (result < 65536) }
+    ensures { (result ≡ flag_of x) × (result < 65536) }
 {
     if x {
         return 1;

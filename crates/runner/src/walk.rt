@@ -3,7 +3,7 @@ ghost use Rattle.std.specs.Prelude.{◌≡◌, length};
 ghost use Rattle.format.specs.Format.{gives, most_acts, reading};
 ghost use Rattle.routine.specs.Tables.{TablesAfter};
 ghost use Rattle.runner.specs.Records.{are_zero, is_padded};
-ghost use Rattle.runner.specs.Walks.{walked_of, stands_from, walked as walkedBy, judged, judged_at, told_at, accepted_at};
+ghost use Rattle.runner.specs.Walks.{walked_of, stands_from, walked as walked_by, judged, judged_at, told_at, accepted_at};
 
 use crate::answer::{Rejection, Told};
 use progression::{Place, effect, pass, settle, step};
@@ -94,7 +94,7 @@ pub(crate) fn walk(
     sets: &mut [u64; SET_WORDS],
 ) -> Walked
     requires { length replies.now ≡ most_acts }
-    ensures { (walked_of result ≡ walkedBy heads.new nodes.new sets.new bytes.now replies.now count) × TablesAfter (reading bytes.now) heads.old nodes.old sets.old heads.new nodes.new sets.new }
+    ensures { (walked_of result ≡ walked_by heads.new nodes.new sets.new bytes.now replies.now count) × TablesAfter (reading bytes.now) heads.old nodes.old sets.old heads.new nodes.new sets.new }
 {
     match prepare(bytes, heads, nodes, sets) {
         Prepared::Refused(r) => Walked::Refused(r),

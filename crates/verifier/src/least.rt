@@ -7,7 +7,7 @@ ghost use Rattle.semantics.specs.Runs.{entry};
 ghost use Rattle.format.specs.Format.{most_acts};
 ghost use Rattle.semantics.specs.Verdict.{trace, written};
 ghost use Rattle.routine.specs.Memory.{set_at};
-ghost use Rattle.verifier.specs.Least.{preimage as preimageOf, path_from, least_states, FeasibleFrom};
+ghost use Rattle.verifier.specs.Least.{preimage as preimage_of, path_from, least_states, FeasibleFrom};
 
 use crate::limits::FEASIBLE_WORDS;
 use progression::step;
@@ -38,7 +38,7 @@ fn preimage(
     reply: usize,
     later: States,
 ) -> States
-    ensures { result ≡ preimageOf heads.now sets.now (entry action reply) later }
+    ensures { result ≡ preimage_of heads.now sets.now (entry action reply) later }
 {
     let head = head_at(heads, action);
     if head.count <= reply {
