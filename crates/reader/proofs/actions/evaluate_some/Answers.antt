@@ -1,0 +1,37 @@
+-- `reader::actions::evaluate_some` meets its contract. The loop's invariant: the set and the formulas that are left tell what all of them tell. The measure is how many are left. Assumes nothing.
+use Prim.Native.Nat.{◌-◌, ◌≤◌}
+use mathlib.Core.Path.{◌≡◌, sym, ap, ◌∙◌}
+use native.Mathlib.Omega.{arith}
+use borrow.Author.Rules.{rules}
+use Rattle.states.specs.Sets.{member, set_of}
+use Rattle.format.specs.Format.{mapped, objectives}
+use Rattle.reader.proofs.TestLaws.{joined_to, set_own, some_start, some_more, some_refused, some_end}
+use Rattle.reader.specs.Answers.{set_read, in_theory}
+use Rattle.reader.specs.Method.{some_holds}
+use Rattle.reader.proofs.actions.evaluate_some.Goals as goal
+
+pub loop-i-init : goal.loop-i-init
+loop-i-init c = let a = c.args in
+    (omega arith, set_own _ _ c.empty-set.ensures, some_start a.n a.bytes.now a.at a.m c.empty-set.result c.empty-set.ensures)
+
+pub returns-in-Refused : goal.returns-in-Refused
+unfolding set_read in_theory
+returns-in-Refused c = let a = c.args in
+    let l = c.loop-i in
+    sym (some_refused a.n a.bytes.now l.p a.m l.i l.set (omega arith) (sym c.evaluate.ensures ∙ ap set_read c.in-Refused.is)) ∙ l.invariant.2
+
+pub loop-i-preserved : goal.loop-i-preserved
+unfolding set_read in_theory
+loop-i-preserved c = let a = c.args in
+    let l = c.loop-i in (
+      omega arith,
+      set_own _ _ c.union-set.ensures,
+      sym (some_more a.n a.bytes.now l.p a.m l.i l.set _ _ _ (omega arith) (sym c.evaluate.ensures ∙ ap set_read c.in-Holds.is) c.union-set.ensures)
+          ∙ l.invariant.2,
+    )
+
+pub returns : goal.returns
+unfolding set_read
+returns c = let a = c.args in
+    let l = c.loop-i in
+    sym (some_end a.n a.bytes.now l.p a.m l.i l.set (omega arith) l.invariant.1) ∙ l.invariant.2

@@ -1,0 +1,17 @@
+-- `reader::actions::evaluate_some` meets its contract. The loop's invariant: the set and the formulas that are left tell what all of them tell. The measure is how many are left. Assumes nothing.
+use Prim.Native.Nat.{◌-◌, ◌≤◌}
+use mathlib.Core.Path.{◌≡◌, sym, ap, ◌∙◌}
+use native.Mathlib.Omega.{arith}
+use borrow.Author.Rules.{rules}
+use Rattle.states.specs.Sets.{member, set_of}
+use Rattle.format.specs.Format.{mapped, objectives}
+use Rattle.reader.proofs.TestLaws.{joined_to, set_own, some_start, some_more, some_refused, some_end}
+use Rattle.reader.specs.Answers.{set_read, in_theory}
+use Rattle.reader.specs.Method.{some_holds}
+use Rattle.reader.proofs.actions.evaluate_some.Given as goal
+
+abbrev pub invariant-loop-i : goal.invariant-loop-i
+invariant-loop-i l = (l.i ≤ l.m) × (l.set ≡ set_of (member l.set)) × (mapped (joined_to l.set) (objectives l.n (l.m - l.i) l.bytes l.p) ≡ mapped some_holds (objectives l.n l.m l.bytes l.at))
+
+abbrev pub decreases-loop-i : goal.decreases-loop-i
+decreases-loop-i l = l.m - l.i
