@@ -15,6 +15,5 @@ use Rattle.reader.specs.Answers.{number_of, set_read, in_theory, states_in}
 use Rattle.reader.specs.Method.{field_read}
 use Rattle.reader.proofs.formula.+evaluate.Given as goal
 
--- the measure was a.1.1.0
 abbrev pub decreases-evaluate : goal.decreases-evaluate
 decreases-evaluate l = l.left

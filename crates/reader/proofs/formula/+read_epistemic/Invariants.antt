@@ -10,6 +10,5 @@ use Rattle.reader.specs.Method.{end_read, ending}
 use Rattle.reader.proofs.EndLaws.{node_refused, known_ends, not_known_ends, pair_refused, pair_ends}
 use Rattle.reader.proofs.formula.+read_epistemic.Given as goal
 
--- the measure was a.1.1.0
 abbrev pub decreases-read_epistemic : goal.decreases-read_epistemic
 decreases-read_epistemic l = l.left

@@ -11,6 +11,5 @@ use Rattle.reader.specs.Answers.{number_of, program_node_read}
 use Rattle.reader.specs.Method.{end_read, count_read, counts}
 use Rattle.reader.proofs.program.+read_program.Given as goal
 
--- the measure was a.1.1.1.1.0
 abbrev pub decreases-read_program : goal.decreases-read_program
 decreases-read_program l = l.left

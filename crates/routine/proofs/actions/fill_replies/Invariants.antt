@@ -1,0 +1,19 @@
+-- `routine::actions::fill_replies` meets its contract. The loop's invariant: the replies from i on stand at `p`, and if their tables are written where they are left to be, all are. The measure is the replies that are left. Assumes nothing.
+use borrow.Author.Rules.{rules}
+use Prim.Native.Nat.{ℕ, ◌-◌, ◌≤◌}
+use mathlib.Core.Path.{◌≡◌}
+use mathlib.Core.List.{List}
+use native.Mathlib.Omega.{arith}
+use lib.ListN.{length}
+use Rattle.format.specs.Syntax.{Objective}
+use Rattle.format.specs.Standing.{RepliesAt}
+use Rattle.reader.specs.Answers.{in_theory}
+use Rattle.routine.proofs.EvaluatedLaws.{found, never_refused}
+use Rattle.routine.proofs.ActionLaws.{RepliesLeft, replies_first, replies_here, replies_last}
+use Rattle.routine.proofs.actions.fill_replies.Given as goal
+
+abbrev pub invariant-loop-i : goal.invariant-loop-i
+invariant-loop-i l = (l.i ≤ l.m) × ((fs : List Objective) (q : ℕ) → RepliesAt l.bytes l.n fs l.at q → length fs ≡ l.m → RepliesLeft l.bytes l.n l.m l.k l.initial.sets l.sets l.p q l.i fs)
+
+abbrev pub decreases-loop-i : goal.decreases-loop-i
+decreases-loop-i l = l.m - l.i

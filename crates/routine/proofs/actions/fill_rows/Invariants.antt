@@ -1,0 +1,21 @@
+-- `routine::actions::fill_rows` meets its contract. The loop's invariant: if the rows from `old` on are written where they are left to be, all are. The measure is the states that are left. Assumes nothing.
+use Prim.Native.Nat.{ℕ, ◌+◌, ◌-◌, ◌*◌, ◌%◌, ◌≤◌}
+use mathlib.Core.Path.{◌≡◌, ap, ◌∙◌}
+use mathlib.Core.List.{flat_map}
+use mathlib.Core.Bool.{true}
+use native.Mathlib.Omega.{arith}
+use Rattle.states.specs.Sets.{words, member}
+use Rattle.format.specs.Syntax.{Objective, change}
+use Rattle.format.specs.Standing.{ObjectiveAt}
+use Rattle.lists.specs.Lists.{write}
+use Rattle.routine.specs.Tables.{rows}
+use Rattle.routine.proofs.ActionLaws.{row_of, rows_from, rows_first, rows_next, rows_last}
+use Rattle.routine.proofs.actions.fill_rows.Given as goal
+
+abbrev pub invariant-loop-old : goal.invariant-loop-old
+invariant-loop-old l = (l.old ≤ 256)
+    × ((f : Objective) (q : ℕ) → ObjectiveAt l.bytes l.n true f l.at q
+    → write l.sets (4 * (l.k + l.old)) (flat_map words (rows_from l.space f l.old)) ≡ write l.initial.sets (4 * l.k) (flat_map words (rows (member l.space) (change f))))
+
+abbrev pub decreases-loop-old : goal.decreases-loop-old
+decreases-loop-old l = 256 - l.old
