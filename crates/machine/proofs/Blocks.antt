@@ -8,7 +8,7 @@ use mathlib.Core.Logic.{∥∥₁_prop, ∥∥₁_elim, ∥∥₁_map}
 use lib.ListN.{length}
 use lib.Dec.{T}
 use seplogic.Ra.Ura.{Ura}
-use seplogic.Ra.TreeShare.{full_share}
+use base.Fraction.{full_share}
 use seplogic.Bi.Sat
 use mir.Syntax.{Width, w8, Ty, ty_int, ty_array}
 use mir.Val.{Val, vint, WT, has_ty, bits}

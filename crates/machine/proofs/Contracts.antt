@@ -7,11 +7,11 @@ use mir.Val.{Val}
 use base.Logic.{SProp, ent, sep, ex, via, mono_l, fst∗, snd∗}
 use prog.Memory.{Memory}
 use prog.Model.{Model}
-use prog.Routine.{Routine, ends, anyName}
+use prog.Routine.{Routine, ends, any_callee}
 use types.Logic.{Logic, sem}
 use types.Kit.{raw, ◌⊛◌, some, ◌$◌, ◌∵◌, !, qed, move, keep, use1, split, join, pick, show, done}
 use contract.Monad.{fact}
-use contract.Running.{Running, real, alone}
+use contract.Running.{Running, strict, alone}
 use contract.Adequate.{Satisfies, sat_weaken, sat_fact, sat_ex∗, sat_⇛}
 use denote.Laws.{Is, shows}
 use denote.Signature.{Signature, type_at}
@@ -24,9 +24,6 @@ use denote.Triple.Adequate.{adequate}
 module _ {M : Type 1} {𝓤 : Ura M} (𝓛 : Logic 𝓤) (𝓜 : Model 𝓤 𝓛.H) where
   open 𝓛 use {H}
 
-  abbrev 𝓡 : Running 𝓤 H 𝓜
-  𝓡 = real 𝓤 H 𝓜
-
   abbrev ◌∗◌ : SProp 𝓤 → SProp 𝓤 → SProp 𝓤
   P ∗ Q = sep 𝓤 P Q
 
@@ -37,7 +34,7 @@ module _ {M : Type 1} {𝓤 : Ura M} (𝓛 : Logic 𝓤) (𝓜 : Model 𝓤 𝓛
 
   -- What a run leaves: from a memory in which the call may be made, with F beside that, the routine ends; what it returns stands for a value, the contract's fact φ holds of it
   -- and of what the parameters are at exit, and the lifetimes and the last values are there for whoever lent them, with F.
-  module _ (S : Signature) (ρ : Routine) (c : Spec 𝓤 S) (met : Meets 𝓛 S (𝓡.run ρ) c) (x : Bound 𝓛 S) (g : (c x.0 x.3).ghost) (ks : Kepts S.params)
+  module _ (𝓡 : Running 𝓤 H 𝓜) (S : Signature) (ρ : Routine) (c : Spec 𝓤 S) (met : Meets 𝓛 S (𝓡.returns ρ) c) (x : Bound 𝓛 S) (g : (c x.0 x.3).ghost) (ks : Kepts S.params)
       (φ : Res S x.0 → Outs x.0 S.params ks → Type 0)
       (says : (t : Res S x.0) → ent 𝓤 ((c x.0 x.3).ensures g t) (exits 𝓛 S ks x.0 x.3 (λ e. fact 𝓤 (φ t e)))) where
     abbrev pub Left : Fins x.0 S.params ks x.3 → SProp 𝓤
@@ -72,7 +69,7 @@ module _ {M : Type 1} {𝓤 : Ura M} (𝓛 : Logic 𝓤) (𝓜 : Model 𝓤 𝓛
         × Is (type_at S.result x.0) t (v ∷ []) × φ t (outs x.0 S.params ks x.3 ws) × Satisfies 𝓤 H 𝓜 σ' (Left ws ∗ F)) ∥₁
     unfolding alone
     leaves σ F s =
-        ∥∥₁_elim (adequate 𝓤 H 𝓜 (alone 𝓤 H 𝓜 𝓡 ρ) anyName (triple_of 𝓛 S c) met (x, g) σ F s) ∥∥₁_prop (λ q.
+        ∥∥₁_elim (adequate 𝓤 H 𝓜 (alone 𝓤 H 𝓜 (strict 𝓤 H 𝓜 𝓡) ρ) ((λ s o. o), tt) any_callee (triple_of 𝓛 S c) met (x, g) σ F s) ∥∥₁_prop (λ q.
         ∥∥₁_elim (sat_ex∗ 𝓤 H 𝓜 q.2 (returned q.1) F (sat_⇛ 𝓤 H 𝓜 q.2 (ex 𝓤 (returned q.1)) F q.4)) ∥∥₁_prop (λ t.
         ∥∥₁_elim (front_fact q.2 (returned q.1 t.0) F (Is (type_at S.result x.0) t.0 (q.1 ∷ [])) (is_value q.1 t.0) t.1) ∥∥₁_prop (λ i.
         ∥∥₁_elim (sat_ex∗ 𝓤 H 𝓜 q.2 (told t.0) F (sat_weaken 𝓤 H 𝓜 q.2 (mono_l 𝓤 F (told_all q.1 t.0)) t.1)) ∥∥₁_prop (λ ws.

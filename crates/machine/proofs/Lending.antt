@@ -6,11 +6,11 @@ use mathlib.Core.Path.{◌≡◌, refl}
 use mathlib.Core.Logic.{∥∥₁_prop, ∥∥₁_elim, ∥∥₁_map}
 use lib.ListN.{length}
 use seplogic.Ra.Ura.{Ura}
-use seplogic.Ra.TreeShare.{full_share}
+use base.Fraction.{full_share}
 use mir.Syntax.{named, Width, ty_int}
 use mir.Val.{Val, vint, vptr, bytes}
 use base.Logic.{SProp, ent, sep, ex, emp, id⊢, via, mono_l, snd∗, ex_i}
-use base.Fml.{GName, Fml, fsep, feq, fat, flft, flent, fres}
+use base.Fml.{GName, Fml, fsep, feq, fat, flft, fbor, flent, fres, fhide}
 use prog.Memory.{Memory}
 use prog.Wp.{run}
 use prog.Model.{Model}
@@ -26,15 +26,21 @@ use denote.Memory.{part_at, mem, shares, share_laws}
 use denote.Array.{Array}
 use denote.ArrayMemory.{Array-apart, Array-whole}
 use denote.Plain.{UInt, uint_vals, uint_Tells, uint_copy, uint_in, uint_out}
-use denote.Ref.{MutBor, MutRef, ShrRef}
-use denote.Slice.{MutSlice, ShrSlice, slice_val, Room, finally}
-use denote.Lend.{Held as Borrowed, lends_ref, lends_shr, ref_back, lends_shr_slice, lends_slice, slice_back}
+use denote.Ref.{Bor, MutBor, MutRef, ShrRef}
+use denote.Shadow.{pure_i}
+use denote.Lends.{Lent-map}
+use denote.Copied.{uint_Copied, each_lends, Array-Copied}
+use denote.Slice.{MutSlice, ShrSlice, slice_val, shr_slice_at, elements_shared, Room, finally}
+use denote.Lend.{Held as Borrowed, lends_ref, lends_free, ref_back, lends_slice, slice_back}
 
 abbrev pub Table : Width → ℕ → RattleType
 Table w n = Array (UInt w) n
 
 abbrev pub reference : List ℕ → (b o : ℕ) → GName → MutBor (List ℕ)
 reference xs b o δ = record { ref_ptr = (b, o); ghost_name = δ; now = xs }
+
+abbrev pub seen : List ℕ → (b o : ℕ) → Bor (List ℕ)
+seen xs b o = record { ref_ptr = (b, o); now = xs }
 
 module _ {M : Type 1} {𝓤 : Ura M} (𝓛 : Logic 𝓤) (𝓜 : Model 𝓤 𝓛.H) where
   open 𝓛 use {H}
@@ -108,9 +114,9 @@ module _ {M : Type 1} {𝓤 : Ura M} (𝓛 : Logic 𝓤) (𝓜 : Model 𝓤 𝓛
   is_lent : (O A : ℕ → GName → SProp 𝓤) (α : ℕ) (δ : GName) → ent 𝓤 (Lent O A α δ) (SomeLent O A)
   is_lent O A α δ = via 𝓤 (ex 𝓤 (λ (δ' : GName). Lent O A α δ')) (ex_i 𝓤 (λ (δ' : GName). Lent O A α δ') δ) (ex_i 𝓤 (λ (α' : ℕ). ex 𝓤 (λ (δ' : GName). Lent O A α' δ')) α)
 
-  -- An array that is read.
+  -- An array that is read. (No name is needed for it.)
   abbrev pub ReadArray : (j : ℕ) (w : Width) (n : ℕ) (xs : List ℕ) (b o α : ℕ) → GName → SProp 𝓤
-  ReadArray j w n xs b o α δ = ⟦ (ShrRef (named j) (α ∷ []) (Table w n)).own_val (reference xs b o δ) (vptr b o ∷ []) ⟧
+  ReadArray j w n xs b o α δ = ⟦ (ShrRef (named j) (α ∷ []) (Table w n)).own_val (seen xs b o) (vptr b o ∷ []) ⟧
 
   abbrev pub ReadBack : (w : Width) (n : ℕ) (xs : List ℕ) (b o α : ℕ) → GName → SProp 𝓤
   ReadBack w n xs b o α δ = 𝓛.A.lent (α ∷ []) (Lying w n xs b o)
@@ -118,10 +124,10 @@ module _ {M : Type 1} {𝓤 : Ura M} (𝓛 : Logic 𝓤) (𝓜 : Model 𝓤 𝓛
   pub lends_read : (j : ℕ) (w : Width) (n : ℕ) (xs : List ℕ) (b o : ℕ) → ent 𝓤 (Held w n b o xs) (H.⇛ (SomeLent (ReadArray j w n xs b o) (ReadBack w n xs b o)))
   lends_read j w n xs b o =
       qed 𝓛 (raw (Held w n b o xs) ∷ []) ∵ updating ! $ use1 𝓛 (‵ (Lying w n xs b o)) (lying_in w n xs b o) $ lft_new ! tt (λ α. move ! (1 ∷ []) $
-      use1 𝓛 (later (some (λ (δ : GName). ‵ ((ShrRef (named j) (α ∷ []) (Table w n)).own_val (reference xs b o δ) (vptr b o ∷ [])) ⊛ ‵ (flent (α ∷ []) (Lying w n xs b o)))))
-      (lends_shr 𝓛 (Table w n) (named j) (α ∷ []) full_share xs b o) $
-      await ! tt $ pick ! (λ δ. split ! $ at_once ! $ suffices ! (Lent (ReadArray j w n xs b o) (ReadBack w n xs b o) α δ) (is_lent (ReadArray j w n xs b o) (ReadBack w n xs b o) α δ) $
-      move ! (2 ∷ 0 ∷ []) $ join ! $ done !))
+      use1 𝓛 (later (‵ ((ShrRef (named j) (α ∷ []) (Table w n)).own_val (seen xs b o) (vptr b o ∷ [])) ⊛ ‵ (flent (α ∷ []) (Lying w n xs b o))))
+      (lends_free 𝓛 (Table w n) (named j) (α ∷ []) full_share xs b o ((Array-Copied 𝓛 (UInt w) (uint_Copied 𝓛 w) tt n).lends full_share xs b o)) $
+      await ! tt $ split ! $ at_once ! $ suffices ! (Lent (ReadArray j w n xs b o) (ReadBack w n xs b o) α 0) (is_lent (ReadArray j w n xs b o) (ReadBack w n xs b o) α 0) $
+      move ! (2 ∷ 0 ∷ []) $ join ! $ done !)
 
   pub read_back : (w : Width) (n : ℕ) (xs : List ℕ) (b o α : ℕ) (δ : GName) → ent 𝓤 (Live α ∗ ReadBack w n xs b o α δ ∗ emp 𝓤) (H.⇛ (Cells w b o xs))
   read_back w n xs b o α δ =
@@ -135,8 +141,8 @@ module _ {M : Type 1} {𝓤 : Ura M} (𝓛 : Logic 𝓤) (𝓜 : Model 𝓤 𝓛
   abbrev pub WriteBack : (w : Width) (n b o α : ℕ) → GName → SProp 𝓤
   WriteBack w n b o α δ = 𝓛.A.lent (α ∷ []) (Body (mem (Table w n)) b o δ)
 
-  abbrev pub Last : (w : Width) (n : ℕ) → GName → List ℕ → SProp 𝓤
-  Last w n δ ys = ⟦ fres δ ((Table w n).coded.code ys) ⟧
+  abbrev pub Last : (w : Width) (n b o α : ℕ) → GName → List ℕ → SProp 𝓤
+  Last w n b o α δ ys = ⟦ fsep (fres δ ((Table w n).coded.code ys)) (fbor (α ∷ []) (Body (mem (Table w n)) b o δ)) ⟧
 
   pub lends_write : (j : ℕ) (w : Width) (n : ℕ) (xs : List ℕ) (b o : ℕ) → ent 𝓤 (Held w n b o xs) (H.⇛ (SomeLent (WriteArray j w n xs b o) (WriteBack w n b o)))
   lends_write j w n xs b o =
@@ -146,10 +152,11 @@ module _ {M : Type 1} {𝓤 : Ura M} (𝓛 : Logic 𝓤) (𝓜 : Model 𝓤 𝓛
       await ! tt $ pick ! (λ δ. split ! $ at_once ! $ suffices ! (Lent (WriteArray j w n xs b o) (WriteBack w n b o) α δ) (is_lent (WriteArray j w n xs b o) (WriteBack w n b o) α δ) $
       move ! (2 ∷ 0 ∷ []) $ join ! $ done !))
 
-  pub write_back : (w : Width) (n : ℕ) (ys : List ℕ) (b o α : ℕ) (δ : GName) → ent 𝓤 (Live α ∗ WriteBack w n b o α δ ∗ Last w n δ ys) (H.⇛ (Held w n b o ys))
+  pub write_back : (w : Width) (n : ℕ) (ys : List ℕ) (b o α : ℕ) (δ : GName) → ent 𝓤 (Live α ∗ WriteBack w n b o α δ ∗ Last w n b o α δ ys) (H.⇛ (Held w n b o ys))
   write_back w n ys b o α δ =
-      qed 𝓛 (‵ (flft (α ∷ []) full_share) ∷ ‵ (flent (α ∷ []) (Body (mem (Table w n)) b o δ)) ∷ ‵ (fres δ ((Table w n).coded.code ys)) ∷ []) ∵ updating ! $
-      lft_end ! tt $ use3 𝓛 (later (‵ (Lying w n ys b o))) (ref_back 𝓛 (Table w n) (α ∷ []) δ ys b o) $ await ! tt $ at_once ! $ by ! (lying_out w n ys b o)
+      let held : Fml = Body (mem (Table w n)) b o δ in
+      qed 𝓛 (‵ (flft (α ∷ []) full_share) ∷ ‵ (flent (α ∷ []) held) ∷ ‵ (fsep (fres δ ((Table w n).coded.code ys)) (fbor (α ∷ []) held)) ∷ []) ∵ updating ! $
+      move ! (2 ∷ []) $ fsplit ! $ move ! (2 ∷ 3 ∷ 0 ∷ []) $ lft_end ! tt $ use3 𝓛 (later (‵ (Lying w n ys b o))) (ref_back 𝓛 (Table w n) (α ∷ []) δ ys b o) $ await ! tt $ at_once ! $ keep ! (0 ∷ []) $ by ! (lying_out w n ys b o)
 
   -- One parameter in front of those that are lent already, and one taken back: its lifetime beside the others, what it owns beside what they own, what gives its memory back
   -- beside what gives theirs.
@@ -193,19 +200,23 @@ module _ {M : Type 1} {𝓤 : Ura M} (𝓛 : Logic 𝓤) (𝓜 : Model 𝓤 𝓛
   pointer xs b o = slice_val (b, o) (length xs)
 
   abbrev pub ReadSlice : (j : ℕ) (w : Width) (xs : List ℕ) (b o α : ℕ) → GName → SProp 𝓤
-  ReadSlice j w xs b o α δ = ⟦ (ShrSlice (named j) (α ∷ []) (UInt w)).own_val (reference xs b o δ) (pointer xs b o ∷ []) ⟧
+  ReadSlice j w xs b o α δ = ⟦ (ShrSlice (named j) (α ∷ []) (UInt w)).own_val (seen xs b o) (pointer xs b o ∷ []) ⟧
 
   abbrev pub SliceBack : (w : Width) (xs : List ℕ) (b o α : ℕ) → GName → SProp 𝓤
   SliceBack w xs b o α δ = 𝓛.A.lent (α ∷ []) ((arr_parts (shares (UInt w)) (length xs)).part full_share xs b o)
 
   pub lends_slice_read : (j : ℕ) (w : Width) (xs : List ℕ) (b o : ℕ) → Room (UInt w) (length xs) → ent 𝓤 (Cells w b o xs) (H.⇛ (SomeLent (ReadSlice j w xs b o) (SliceBack w xs b o)))
   lends_slice_read j w xs b o fits =
+      let whole : Fml = (arr_parts (shares (UInt w)) (length xs)).part full_share xs b o in
+      let long : Fml = feq ℕ (length xs) (length xs) in
       qed 𝓛 (raw (Cells w b o xs) ∷ []) ∵ updating ! $ use1 𝓛 (‵ (Parts w xs b o)) (parts_in w xs b o) $ feq_i ! ℕ (length xs) (length xs) refl $ fjoin ! $
       lft_new ! tt (λ α. move ! (1 ∷ []) $
-      use1 𝓛 (later (some (λ (δ : GName). ‵ ((ShrSlice (named j) (α ∷ []) (UInt w)).own_val (reference xs b o δ) (pointer xs b o ∷ [])) ⊛ ‵ (flent (α ∷ []) ((arr_parts (shares (UInt w)) (length xs)).part full_share xs b o)))))
-      (lends_shr_slice 𝓛 (UInt w) (named j) (α ∷ []) full_share xs b o fits) $
-      await ! tt $ pick ! (λ δ. split ! $ at_once ! $ suffices ! (Lent (ReadSlice j w xs b o) (SliceBack w xs b o) α δ) (is_lent (ReadSlice j w xs b o) (SliceBack w xs b o) α δ) $
-      move ! (2 ∷ 0 ∷ []) $ join ! $ done !))
+      use1 𝓛 (later (‵ (fhide (elements_shared (UInt w) xs b o (α ∷ []))) ⊛ ‵ (flent (α ∷ []) whole)))
+      (Lent-map 𝓛 whole (Parts w xs b o) (elements_shared (UInt w) xs b o) (snd∗ 𝓤 ⟦ long ⟧ ⟦ Parts w xs b o ⟧)
+      (qed 𝓛 (‵ (Parts w xs b o) ∷ []) ∵ feq_i ! ℕ (length xs) (length xs) refl $ fjoin ! $ done !)
+      (each_lends 𝓛 (UInt w) (uint_Copied 𝓛 w) full_share xs b o) (α ∷ [])) $
+      await ! tt $ split ! $ at_once ! $ suffices ! (Lent (ReadSlice j w xs b o) (SliceBack w xs b o) α 0) (is_lent (ReadSlice j w xs b o) (SliceBack w xs b o) α 0) $
+      pure_i ! (shr_slice_at (UInt w) (seen xs b o) (pointer xs b o ∷ [])) (tt, (tt, tt)) (refl, fits) $ fjoin ! $ move ! (2 ∷ 0 ∷ []) $ join ! $ done !)
 
   pub slice_read_back : (w : Width) (xs : List ℕ) (b o α : ℕ) (δ : GName) → ent 𝓤 (Live α ∗ SliceBack w xs b o α δ ∗ emp 𝓤) (H.⇛ (Cells w b o xs))
   slice_read_back w xs b o α δ =
@@ -218,8 +229,8 @@ module _ {M : Type 1} {𝓤 : Ura M} (𝓛 : Logic 𝓤) (𝓜 : Model 𝓤 𝓛
   abbrev pub SliceHeld : (w : Width) (n b o α : ℕ) → GName → SProp 𝓤
   SliceHeld w n b o α δ = 𝓛.A.lent (α ∷ []) (Borrowed (UInt w) n b o δ)
 
-  abbrev pub Finally : (w : Width) → GName → (ys : List ℕ) (n : ℕ) → SProp 𝓤
-  Finally w δ ys n = ⟦ fsep (finally (UInt w) δ ys) (feq ℕ (length ys) n) ⟧
+  abbrev pub Finally : (w : Width) (b o α : ℕ) → GName → (ys : List ℕ) (n : ℕ) → SProp 𝓤
+  Finally w b o α δ ys n = ⟦ fsep (fsep (finally (UInt w) δ ys) (feq ℕ (length ys) n)) (fbor (α ∷ []) (Borrowed (UInt w) n b o δ)) ⟧
 
   pub lends_slice_write : (j : ℕ) (w : Width) (xs : List ℕ) (b o : ℕ) → Room (UInt w) (length xs) → ent 𝓤 (Cells w b o xs) (H.⇛ (SomeLent (WriteSlice j w xs b o) (SliceHeld w (length xs) b o)))
   lends_slice_write j w xs b o fits =
@@ -229,8 +240,9 @@ module _ {M : Type 1} {𝓤 : Ura M} (𝓛 : Logic 𝓤) (𝓜 : Model 𝓤 𝓛
       await ! tt $ pick ! (λ δ. split ! $ at_once ! $ suffices ! (Lent (WriteSlice j w xs b o) (SliceHeld w (length xs) b o) α δ) (is_lent (WriteSlice j w xs b o) (SliceHeld w (length xs) b o) α δ) $
       move ! (2 ∷ 0 ∷ []) $ join ! $ done !))
 
-  pub slice_write_back : (w : Width) (n : ℕ) (ys : List ℕ) (b o α : ℕ) (δ : GName) → ent 𝓤 (Live α ∗ SliceHeld w n b o α δ ∗ Finally w δ ys n) (H.⇛ (Held w n b o ys))
+  pub slice_write_back : (w : Width) (n : ℕ) (ys : List ℕ) (b o α : ℕ) (δ : GName) → ent 𝓤 (Live α ∗ SliceHeld w n b o α δ ∗ Finally w b o α δ ys n) (H.⇛ (Held w n b o ys))
   slice_write_back w n ys b o α δ =
-      qed 𝓛 (‵ (flft (α ∷ []) full_share) ∷ ‵ (flent (α ∷ []) (Borrowed (UInt w) n b o δ)) ∷ ‵ (fsep (finally (UInt w) δ ys) (feq ℕ (length ys) n)) ∷ []) ∵ updating ! $
-      move ! (2 ∷ []) $ fsplit ! $ move ! (2 ∷ 3 ∷ 0 ∷ []) $ lft_end ! tt $ use3 𝓛 (later (‵ ((Arr (mem (UInt w)) n).own_at ys b o))) (slice_back 𝓛 (UInt w) (α ∷ []) δ ys n b o) $ await ! tt $
+      let held : Fml = Borrowed (UInt w) n b o δ in
+      qed 𝓛 (‵ (flft (α ∷ []) full_share) ∷ ‵ (flent (α ∷ []) held) ∷ ‵ (fsep (fsep (finally (UInt w) δ ys) (feq ℕ (length ys) n)) (fbor (α ∷ []) held)) ∷ []) ∵ updating ! $
+      move ! (2 ∷ []) $ fsplit ! $ fsplit ! $ move ! (3 ∷ 4 ∷ 0 ∷ []) $ lft_end ! tt $ use3 𝓛 (later (‵ ((Arr (mem (UInt w)) n).own_at ys b o))) (slice_back 𝓛 (UInt w) (α ∷ []) δ ys n b o) $ await ! tt $
       at_once ! $ keep ! (0 ∷ []) $ fsplit ! $ feq_l ! (λ e. feq_i ! ℕ (length ys) n e $ frame ! $ by ! (cells_out w ys b o))

@@ -7,7 +7,7 @@ use mathlib.Core.Path.{◌≡◌, refl, sym, ap, subst, ◌∙◌}
 use mathlib.Core.Logic.{∥∥₁_prop, ∥∥₁_elim, ∥∥₁_map}
 use lib.ListN.{length, replicate}
 use seplogic.Ra.Ura.{Ura}
-use seplogic.Ra.TreeShare.{full_share}
+use base.Fraction.{full_share}
 use mir.Syntax.{Width, w8, w16, w32, w64, w128}
 use mir.Val.{Val, vint, bytes}
 use base.Logic.{SProp, ent, sep, ex, emp, id⊢, via, mono_l, mono_r, emp∗, fst∗, snd∗, comm∗}
@@ -19,11 +19,11 @@ use types.Logic.{Logic, sem}
 use types.Kit.{raw, ◌⊛◌, ◌$◌, ◌∵◌, !, qed, move, use0, split, join, done}
 use contract.Lifetimes.{Lfts, Shares}
 use contract.Monad.{fact}
-use contract.Running.{Running, real}
+use contract.Running.{Running}
 use contract.Adequate.{Satisfies, sat_weaken}
 use denote.Laws.{Is}
 use denote.Plain.{UInt, uint_Makes}
-use denote.Ref.{Bor}
+use denote.Ref.{Bor, MutBor}
 use denote.Slice.{Room}
 use denote.Signature.{Signature, type_at}
 use denote.Triple.Bound.{Bound, passed}
@@ -32,7 +32,7 @@ use denote.Triple.End.{Kepts, Fins, Outs, outs}
 use denote.Triple.Spec.{Spec, triple_of, Meets, exits}
 use Rattle.machine.specs.Calls.{Place, Shape, slice, array, Lent, reads, writes, Argument, number, memory, value_of, values_of, Fits, AllFit, blank, Alike, Owned}
 use Rattle.machine.proofs.Contracts.{front_fact, Left, leaves}
-use Rattle.machine.proofs.Lending.{Cells, Held, held_in, Live, reference, ReadArray, ReadBack, WriteArray, WriteBack, Last, lends_read, read_back, lends_write, write_back, ReadSlice, SliceBack, WriteSlice, SliceHeld, Finally, lends_slice_read, slice_read_back, lends_slice_write, slice_write_back, lent_in, taken_out}
+use Rattle.machine.proofs.Lending.{Cells, Held, held_in, Live, reference, seen, ReadArray, ReadBack, WriteArray, WriteBack, Last, lends_read, read_back, lends_write, write_back, ReadSlice, SliceBack, WriteSlice, SliceHeld, Finally, lends_slice_read, slice_read_back, lends_slice_write, slice_write_back, lent_in, taken_out}
 
 -- The lifetimes and names under which arguments are lent, and the last values of those that are written.
 abbrev pub Names : List Argument → Type 0
@@ -71,12 +71,14 @@ shares (memory s l w p xs ∷ more) = (full_share, shares more)
 abbrev pub Denoted : List Argument → Type 0
 Denoted [] = Unit {0}
 Denoted (number w n ∷ more) = ℕ × Denoted more
-Denoted (memory s l w p xs ∷ more) = Bor (List ℕ) × Denoted more
+Denoted (memory s reads w p xs ∷ more) = Bor (List ℕ) × Denoted more
+Denoted (memory s writes w p xs ∷ more) = MutBor (List ℕ) × Denoted more
 
 abbrev pub denoted : (args : List Argument) → Names args → Denoted args
 denoted [] ns = tt
 denoted (number w n ∷ more) ns = (n, denoted more ns)
-denoted (memory s l w p xs ∷ more) ns = (reference xs p.block p.at ns.0.1, denoted more ns.1)
+denoted (memory s reads w p xs ∷ more) ns = (seen xs p.block p.at, denoted more ns.1)
+denoted (memory s writes w p xs ∷ more) ns = (reference xs p.block p.at ns.0.1, denoted more ns.1)
 
 abbrev pub Singly : List Argument → Type 0
 Singly [] = Unit {0}
@@ -101,9 +103,6 @@ room w128 xs h = (omega (arith, h), omega (arith, h))
 module _ {M : Type 1} {𝓤 : Ura M} (𝓛 : Logic 𝓤) (𝓜 : Model 𝓤 𝓛.H) where
   open 𝓛 use {H}
 
-  abbrev 𝓡 : Running 𝓤 H 𝓜
-  𝓡 = real 𝓤 H 𝓜
-
   abbrev ◌∗◌ : SProp 𝓤 → SProp 𝓤 → SProp 𝓤
   P ∗ Q = sep 𝓤 P Q
 
@@ -125,9 +124,9 @@ module _ {M : Type 1} {𝓤 : Ura M} (𝓛 : Logic 𝓤) (𝓜 : Model 𝓤 𝓛
   Back (array n) reads w p xs α δ = ReadBack 𝓛 𝓜 w n xs p.block p.at α δ
   Back (array n) writes w p xs α δ = WriteBack 𝓛 𝓜 w n p.block p.at α δ
 
-  abbrev pub End : Shape → (w : Width) (xs ys : List ℕ) → GName → SProp 𝓤
-  End slice w xs ys δ = Finally 𝓛 𝓜 w δ ys (length xs)
-  End (array n) w xs ys δ = Last 𝓛 𝓜 w n δ ys
+  abbrev pub End : Shape → (w : Width) (p : Place) (xs ys : List ℕ) (α : ℕ) → GName → SProp 𝓤
+  End slice w p xs ys α δ = Finally 𝓛 𝓜 w p.block p.at α δ ys (length xs)
+  End (array n) w p xs ys α δ = Last 𝓛 𝓜 w n p.block p.at α δ ys
 
   abbrev cells : Width → Place → List ℕ → SProp 𝓤
   cells w p xs = Cells 𝓛 𝓜 w p.block p.at xs
@@ -154,7 +153,7 @@ module _ {M : Type 1} {𝓤 : Ura M} (𝓛 : Logic 𝓤) (𝓜 : Model 𝓤 𝓛
   size (array n) xs = n
 
   written_again : (s : Shape) (w : Width) (p : Place) (xs ys : List ℕ) (α : ℕ) (δ : GName)
-      → ent 𝓤 (Live 𝓛 𝓜 α ∗ Back s writes w p xs α δ ∗ End s w xs ys δ) (H.⇛ (held w p (size s xs) ys))
+      → ent 𝓤 (Live 𝓛 𝓜 α ∗ Back s writes w p xs α δ ∗ End s w p xs ys α δ) (H.⇛ (held w p (size s xs) ys))
   written_again slice w p xs ys α δ = slice_write_back 𝓛 𝓜 w (length xs) ys p.block p.at α δ
   written_again (array n) w p xs ys α δ = write_back 𝓛 𝓜 w n ys p.block p.at α δ
 
@@ -186,7 +185,7 @@ module _ {M : Type 1} {𝓤 : Ura M} (𝓛 : Logic 𝓤) (𝓜 : Model 𝓤 𝓛
   Ends [] ns ys = emp 𝓤
   Ends (number w n ∷ more) ns ys = emp 𝓤 ∗ Ends more ns ys.1
   Ends (memory s reads w p xs ∷ more) ns ys = emp 𝓤 ∗ Ends more ns.1 ys.1
-  Ends (memory s writes w p xs ∷ more) ns ys = End s w xs ys.0 ns.0.1 ∗ Ends more ns.1 ys.1
+  Ends (memory s writes w p xs ∷ more) ns ys = End s w p xs ys.0 ns.0.0 ns.0.1 ∗ Ends more ns.1 ys.1
 
   -- In.
   none_in : (F : SProp 𝓤) → ent 𝓤 (emp 𝓤 ∗ F) ((emp 𝓤 ∗ emp 𝓤) ∗ emp 𝓤 ∗ F)
@@ -266,7 +265,7 @@ module _ {M : Type 1} {𝓤 : Ura M} (𝓛 : Logic 𝓤) (𝓜 : Model 𝓤 𝓛
       let long = sem 𝓛 (feq ℕ (length ys.0) (size s xs)) in
       let C = cells w p ys.0 in
       let B = Back s writes w p xs ns.0.0 ns.0.1 in
-      let Z = End s w xs ys.0 ns.0.1 in
+      let Z = End s w p xs ys.0 ns.0.0 ns.0.1 in
       let back = taken_out 𝓛 𝓜 P Z B ns.0.0 (written_again s w p xs ys.0 ns.0.0 ns.0.1) (Lives more ns.1) (Ends more ns.1 ys.1) (Backs more ns.1) F σ q in
       let others = (Lives more ns.1 ∗ Ends more ns.1 ys.1) ∗ Backs more ns.1 ∗ F in
       ∥∥₁_elim (front_fact 𝓛 𝓜 σ P others (length ys.0 ≡ size s xs) (fst∗ 𝓤 long C) back) ∥∥₁_prop (λ e.
@@ -293,7 +292,7 @@ module _ {M : Type 1} {𝓤 : Ura M} (𝓛 : Logic 𝓤) (𝓜 : Model 𝓤 𝓛
   so function before σ F v u given last σ' e l g = (σ', subst (λ (z : Val × List Argument). Gone function before σ F z.0 z.1 σ') (λ i. (e i, l i)) g)
 
   -- So a contract that is met says it, of a signature that takes these arguments: its fact φ holds of the result and the last values.
-  module _ (S : Signature) (ρ : Routine) (c : Spec 𝓤 S) (met : Meets 𝓛 S (𝓡.run ρ) c) (ks : Kepts S.params) (args : List Argument)
+  module _ (𝓡 : Running 𝓤 H 𝓜) (S : Signature) (ρ : Routine) (c : Spec 𝓤 S) (met : Meets 𝓛 S (𝓡.returns ρ) c) (ks : Kepts S.params) (args : List Argument)
       (x : Names args → Bound 𝓛 S) (g : (ns : Names args) → (c (x ns).0 (x ns).3).ghost)
       (φ : (ns : Names args) → Res S (x ns).0 → Outs (x ns).0 S.params ks → Type 0)
       (says : (ns : Names args) (t : Res S (x ns).0) → ent 𝓤 ((c (x ns).0 (x ns).3).ensures (g ns) t) (exits 𝓛 S ks (x ns).0 (x ns).3 (λ e. fact 𝓤 (φ ns t e))))
@@ -301,7 +300,7 @@ module _ {M : Type 1} {𝓤 : Ura M} (𝓛 : Logic 𝓤) (𝓜 : Model 𝓤 𝓛
       (enters : (ns : Names args) → ent 𝓤 ((Lives args ns ∗ Owns 0 args ns) ∗ emp 𝓤) ((triple_of 𝓛 S c).pre (x ns, g ns)))
       (lasts : (ns : Names args) → Fins (x ns).0 S.params ks (x ns).3 → Lasts args)
       (left : (ns : Names args) (ws : Fins (x ns).0 S.params ks (x ns).3)
-      → ent 𝓤 (Left 𝓛 𝓜 S ρ c met (x ns) (g ns) ks (φ ns) (says ns) ws) (Lives args ns ∗ Ends args ns (lasts ns ws))) where
+      → ent 𝓤 (Left 𝓛 𝓜 𝓡 S ρ c met (x ns) (g ns) ks (φ ns) (says ns) ws) (Lives args ns ∗ Ends args ns (lasts ns ws))) where
     abbrev Said : SProp 𝓤 → Memory → Type 1
     Said F σ =
         (ns : Names args) × (v : Val) × (σ' : Memory) × (t : Res S (x ns).0) × (ws : Fins (x ns).0 S.params ks (x ns).3) × ends ρ (values_of args) σ v σ'
@@ -316,7 +315,7 @@ module _ {M : Type 1} {𝓤 : Ura M} (𝓛 : Logic 𝓤) (𝓜 : Model 𝓤 𝓛
         let ns = t.0 in
         let P = Lives args ns ∗ Owns 0 args ns in
         let G = Backs args ns ∗ F in
-        ∥∥₁_elim (leaves 𝓛 𝓜 S ρ c met (x ns) (g ns) ks (φ ns) (says ns) σ G
+        ∥∥₁_elim (leaves 𝓛 𝓜 𝓡 S ρ c met (x ns) (g ns) ks (φ ns) (says ns) σ G
         (sat_weaken 𝓤 H 𝓜 σ (via 𝓤 ((P ∗ emp 𝓤) ∗ G) (beside P (Backs args ns) F) (mono_l 𝓤 G (enters ns))) t.1)) ∥∥₁_prop (λ q.
         ∥∥₁_map (all_out args fit ns (lasts ns q.3) F q.1 (sat_weaken 𝓤 H 𝓜 q.1 (mono_l 𝓤 G (left ns q.3)) q.7)) (λ there.
         (ns, q.0, q.1, q.2, q.3, subst (λ (vs : List Val). ends ρ vs σ q.0 q.1) (values ns) q.4, q.5, q.6, there))))

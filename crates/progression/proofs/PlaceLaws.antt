@@ -214,10 +214,10 @@ module _ (nodes sets : List ℕ) (end_at count : ℕ) where
       (k : ℕ) × (c : ℕ) × (out : ℕ) × NodesAt i (program_nodes p k c) × SetsAt k (program_sets p) × NumbersBelow count p × Shallow p × Leads (i + size p) out × ProgramsAt out ps
 
   record BranchAt (i : ℕ) (f : Epistemic) (y z rest : Program) (ps : List Program) : Type 0 where
-    pub first_set_law : ℕ
+    pub first_set : ℕ
     pub inside : i < node_most
     pub here : node_at nodes i ≡ Node.Branch (formula_size f) (formula_size f + suc (size y))
-    pub condition : Row (node_at nodes) no_node (i + 1) (formula_nodes f first_set_law) × SetsAt first_set_law (atom_sets f)
+    pub condition : Row (node_at nodes) no_node (i + 1) (formula_nodes f first_set) × SetsAt first_set (atom_sets f)
     pub shallow : Levels f deepest
     pub then_stands : ProgramsAt (i + 1 + formula_size f) (y ∷ rest ∷ ps)
     pub else_stands : ProgramsAt (i + 1 + (formula_size f + suc (size y))) (z ∷ rest ∷ ps)
@@ -250,7 +250,7 @@ module _ (nodes sets : List ℕ) (end_at count : ℕ) where
       let e : i + suc (formula_size f + (size y + suc (size z + size rest))) ≡ rest_at + size rest = omega arith in
       let rest_stands : ProgramsAt rest_at (rest ∷ ps) = (k₃, c + action_nodes y + action_nodes z, at.2, n₄, s₃, at.5.2, at.6.3, subst (λ (v : ℕ). Leads v at.2) e at.7, at.8) in
       record {
-        first_set_law = k;
+        first_set = k;
         inside = omega (arith, at.3.1);
         here = row_first (node_at nodes) no_node i _ (fs ++ (ys ++ (jump ++ (zs ++ rs)))) at.3.0;
         condition = (row_left (node_at nodes) no_node (i + 1) fs _ n₀.0, sets_left k (atom_sets f) _ at.4);

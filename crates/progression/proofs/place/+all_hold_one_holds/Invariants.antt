@@ -1,0 +1,34 @@
+-- `progression::place::all_hold` and `one_holds` meet their contracts. Each loop's invariant: the parts from the first node on hold as those from node i on. The measure
+-- of the recursion is the levels left. Assumes nothing.
+use Prim.Native.Nat.{ℕ, ◌-◌, ◌<◌}
+use mathlib.Core.Path.{◌≡◌, sym, subst, ◌∙◌}
+use mathlib.Core.Bool.{Bool, true, false}
+use native.Mathlib.Omega.{arith}
+use borrow.Author.Rules.{rules}
+use borrow.Author.Tests.{not-true, not-false}
+use Rattle.states.specs.Sets.{of_words}
+use Rattle.routine.specs.declared.memory.Node.{Node}
+use Rattle.routine.specs.Memory.{Small}
+use Rattle.progression.specs.Machine.{known_by, parts_hold}
+use Rattle.progression.proofs.MachineLaws.{parts_none, parts_to_law, parts_left, atom_decides, atom_passes, alike_passes, other_decides, other_passes, none_stands, none_left, join_inside}
+use Rattle.progression.proofs.place.+all_hold_one_holds.Given as goal
+
+abbrev pub all_hold-invariant-loop-i : goal.all_hold-invariant-loop-i
+all_hold-invariant-loop-i l = parts_hold l.nodes (known_by l.sets (of_words l.words)) l.left true (l.end - l.at) l.at ≡ parts_left l.nodes (known_by l.sets (of_words l.words)) l.left true l.end l.i
+
+abbrev pub all_hold-decreases-loop-i : goal.all_hold-decreases-loop-i
+all_hold-decreases-loop-i l = l.end - l.i
+
+abbrev pub one_holds-invariant-loop-i : goal.one_holds-invariant-loop-i
+one_holds-invariant-loop-i l = parts_hold l.nodes (known_by l.sets (of_words l.words)) l.left false (l.end - l.at) l.at ≡ parts_left l.nodes (known_by l.sets (of_words l.words)) l.left false l.end l.i
+
+abbrev pub one_holds-decreases-loop-i : goal.one_holds-decreases-loop-i
+one_holds-decreases-loop-i l = l.end - l.i
+
+-- the measure was 
+abbrev pub decreases-all_hold : goal.decreases-all_hold
+decreases-all_hold l = l.left
+
+-- the measure was 
+abbrev pub decreases-one_holds : goal.decreases-one_holds
+decreases-one_holds l = l.left

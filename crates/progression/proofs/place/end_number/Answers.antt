@@ -1,0 +1,24 @@
+-- `place::end_number` meets its contract. The loop's invariant: what the nodes that are left say is what all say. The measure is their number. Assumes nothing.
+use Prim.Native.Nat.{◌-◌, ◌≤◌}
+use mathlib.Core.Path.{◌≡◌, refl, sym, ◌∙◌}
+use native.Mathlib.Omega.{arith}
+use borrow.Author.Rules.{rules}
+use Rattle.routine.specs.Memory.{node_most, node_at}
+use Rattle.progression.specs.Machine.{end_from, end_number}
+use Rattle.progression.proofs.NumberLaws.{end_here, end_later, end_none}
+use Rattle.progression.proofs.place.end_number.Goals as goal
+
+pub loop-i-init : goal.loop-i-init
+unfolding end_number
+loop-i-init c = (omega arith, refl)
+
+pub returns-in-End : goal.returns-in-End
+returns-in-End c =     let l = c in
+    sym (l.loop-i.invariant.1 ∙ end_here _ _ _ (omega arith) _ c.node_at.ensures.0 _ c.in-End.is)
+
+pub loop-i-preserved : goal.loop-i-preserved
+loop-i-preserved c =     let l = c in
+    (omega arith, l.loop-i.invariant.1 ∙ end_later _ _ _ (omega arith) _ c.node_at.ensures.0 c.in_default.in_default-own.keys2)
+
+pub returns : goal.returns
+returns c = let l = c in sym (l.loop-i.invariant.1 ∙ end_none _ _ _ (omega arith))
