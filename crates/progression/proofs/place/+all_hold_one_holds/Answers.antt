@@ -11,30 +11,13 @@ use Rattle.routine.specs.declared.memory.Node.{Node}
 use Rattle.routine.specs.Memory.{Small}
 use Rattle.progression.specs.Machine.{known_by, parts_hold}
 use Rattle.progression.proofs.MachineLaws.{parts_none, parts_to_law, parts_left, atom_decides, atom_passes, alike_passes, other_decides, other_passes, none_stands, none_left, join_inside}
+use borrow.Enum.Refused.{opened}
 use Rattle.progression.proofs.place.+all_hold_one_holds.Goals as goal
 
 -- The size of a part's parts is small.
 small : (x : Node) (both : Bool) (inner : ℕ) → x ≡ Node.Join both inner → Small x → inner < 65536
 unfolding Small
 small x both inner e s = subst Small e s
-
-abbrev all_given : ℕ → In 3 all_kinds.ps
-all_given t = and 3 all_kinds.ps (is 3 all_kinds.ps μ-all t) all.Pre
-
-abbrev all_below : ℕ → In 3 all_kinds.ps
-all_below t = and 3 all_kinds.ps (falls 3 all_kinds.ps ◌<◌ μ-all t) all.Pre
-
-abbrev one_given : ℕ → In 3 one-kinds.ps
-one_given t = and 3 one-kinds.ps (is 3 one-kinds.ps μ-one t) one.Pre
-
-abbrev one_below : ℕ → In 3 one-kinds.ps
-one_below t = and 3 one-kinds.ps (falls 3 one-kinds.ps ◌<◌ μ-one t) one.Pre
-
-abbrev all_calls : ℕ → all-lts.Claims
-all_calls t = (Node-at.Asked, Node-at.Learnt, atom.Asked, atom.Learnt, lesser.Asked, lesser.Learnt, one_below t, one.Post)
-
-abbrev one_calls : ℕ → one-lts.Claims
-one_calls t = (Node-at.Asked, Node-at.Learnt, atom.Asked, atom.Learnt, lesser.Asked, lesser.Learnt, all_below t, all.Post)
 
 pub all_hold-returns-then-left-eq0 : goal.all_hold-returns-then-left-eq0
 all_hold-returns-then-left-eq0 t c = parts_none _ _ _ _ _ _ c.if-left-eq0.true
@@ -73,7 +56,7 @@ pub all_hold-loop-i-preserved : goal.all_hold-loop-i-preserved
 all_hold-loop-i-preserved t c = c.loop-i.invariant ∙ alike_passes _ _ _ _ _ c.loop-i.i (omega arith) _ _ (sym c.in-Join.is ∙ c.node_at.ensures.0) (c.if-not-all.false)
 
 pub all_hold-returns-in_default : goal.all_hold-returns-in_default
-all_hold-returns-in_default t c = sym (c.loop-i.invariant ∙ none_stands _ _ _ _ _ c.loop-i.i (omega arith) _ c.node_at.ensures.0 c.in_default.in_default-own.keys3)
+all_hold-returns-in_default t c = sym (c.loop-i.invariant ∙ none_stands _ _ _ _ _ c.loop-i.i (omega arith) _ c.node_at.ensures.0 (opened c.in_default.in_default-own.keys3))
 
 pub all_hold-returns : goal.all_hold-returns
 all_hold-returns t c = sym (c.loop-i.invariant ∙ none_left _ _ _ _ _ c.loop-i.i (omega arith))
@@ -115,7 +98,7 @@ pub one_holds-loop-i-preserved : goal.one_holds-loop-i-preserved
 one_holds-loop-i-preserved t c = c.loop-i.invariant ∙ alike_passes _ _ _ _ _ c.loop-i.i (omega arith) _ _ (sym c.in-Join.is ∙ c.node_at.ensures.0) c.if-all.false
 
 pub one_holds-returns-in_default : goal.one_holds-returns-in_default
-one_holds-returns-in_default t c = sym (c.loop-i.invariant ∙ none_stands _ _ _ _ _ c.loop-i.i (omega arith) _ c.node_at.ensures.0 c.in_default.in_default-own.keys3)
+one_holds-returns-in_default t c = sym (c.loop-i.invariant ∙ none_stands _ _ _ _ _ c.loop-i.i (omega arith) _ c.node_at.ensures.0 (opened c.in_default.in_default-own.keys3))
 
 pub one_holds-returns : goal.one_holds-returns
 one_holds-returns t c = sym (c.loop-i.invariant ∙ none_left _ _ _ _ _ c.loop-i.i (omega arith))

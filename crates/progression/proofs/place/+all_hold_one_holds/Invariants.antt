@@ -13,22 +13,20 @@ use Rattle.progression.specs.Machine.{known_by, parts_hold}
 use Rattle.progression.proofs.MachineLaws.{parts_none, parts_to_law, parts_left, atom_decides, atom_passes, alike_passes, other_decides, other_passes, none_stands, none_left, join_inside}
 use Rattle.progression.proofs.place.+all_hold_one_holds.Given as goal
 
-abbrev pub all_hold-invariant-loop-i : goal.all_hold-invariant-loop-i
-all_hold-invariant-loop-i l = parts_hold l.nodes (known_by l.sets (of_words l.words)) l.left true (l.end - l.at) l.at ≡ parts_left l.nodes (known_by l.sets (of_words l.words)) l.left true l.end l.i
+abbrev pub invariant-all_hold-loop-i : goal.invariant-all_hold-loop-i
+invariant-all_hold-loop-i l = parts_hold l.nodes (known_by l.sets (of_words l.words)) l.left true (l.end - l.at) l.at ≡ parts_left l.nodes (known_by l.sets (of_words l.words)) l.left true l.end l.i
 
-abbrev pub all_hold-decreases-loop-i : goal.all_hold-decreases-loop-i
-all_hold-decreases-loop-i l = l.end - l.i
+abbrev pub decreases-all_hold-loop-i : goal.decreases-all_hold-loop-i
+decreases-all_hold-loop-i l = l.end - l.i
 
-abbrev pub one_holds-invariant-loop-i : goal.one_holds-invariant-loop-i
-one_holds-invariant-loop-i l = parts_hold l.nodes (known_by l.sets (of_words l.words)) l.left false (l.end - l.at) l.at ≡ parts_left l.nodes (known_by l.sets (of_words l.words)) l.left false l.end l.i
+abbrev pub invariant-one_holds-loop-i : goal.invariant-one_holds-loop-i
+invariant-one_holds-loop-i l = parts_hold l.nodes (known_by l.sets (of_words l.words)) l.left false (l.end - l.at) l.at ≡ parts_left l.nodes (known_by l.sets (of_words l.words)) l.left false l.end l.i
 
-abbrev pub one_holds-decreases-loop-i : goal.one_holds-decreases-loop-i
-one_holds-decreases-loop-i l = l.end - l.i
+abbrev pub decreases-one_holds-loop-i : goal.decreases-one_holds-loop-i
+decreases-one_holds-loop-i l = l.end - l.i
 
--- the measure was 
 abbrev pub decreases-all_hold : goal.decreases-all_hold
 decreases-all_hold l = l.left
 
--- the measure was 
 abbrev pub decreases-one_holds : goal.decreases-one_holds
 decreases-one_holds l = l.left

@@ -6,6 +6,7 @@ use borrow.Author.Rules.{rules}
 use Rattle.routine.specs.Memory.{node_most, node_at}
 use Rattle.progression.specs.Machine.{end_from, end_number}
 use Rattle.progression.proofs.NumberLaws.{end_here, end_later, end_none}
+use borrow.Enum.Refused.{opened}
 use Rattle.progression.proofs.place.end_number.Goals as goal
 
 pub loop-i-init : goal.loop-i-init
@@ -13,12 +14,12 @@ unfolding end_number
 loop-i-init c = (omega arith, refl)
 
 pub returns-in-End : goal.returns-in-End
-returns-in-End c =     let l = c in
+returns-in-End c = let l = c in
     sym (l.loop-i.invariant.1 ∙ end_here _ _ _ (omega arith) _ c.node_at.ensures.0 _ c.in-End.is)
 
 pub loop-i-preserved : goal.loop-i-preserved
-loop-i-preserved c =     let l = c in
-    (omega arith, l.loop-i.invariant.1 ∙ end_later _ _ _ (omega arith) _ c.node_at.ensures.0 c.in_default.in_default-own.keys2)
+loop-i-preserved c = let l = c in
+    (omega arith, l.loop-i.invariant.1 ∙ end_later _ _ _ (omega arith) _ c.node_at.ensures.0 (opened c.in_default.in_default-own.keys2))
 
 pub returns : goal.returns
 returns c = let l = c in sym (l.loop-i.invariant.1 ∙ end_none _ _ _ (omega arith))

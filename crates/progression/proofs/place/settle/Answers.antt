@@ -16,42 +16,18 @@ use Rattle.routine.specs.Memory.{Small, node_most, node_at}
 use Rattle.progression.specs.declared.place.Place.{Place}
 use Rattle.progression.specs.Machine.{known_by, holds_at, at_node, settled, Inside}
 use Rattle.progression.proofs.MachineLaws.{goes_to, goes_by, goes_branch, goes_past, settled_goes, at_end, AskedFor, branch_asks, end_asks}
+use borrow.Enum.Refused.{opened}
 use Rattle.progression.proofs.place.settle.Goals as goal
-
--- Where the program settles from node i on.
-abbrev from : (nodes sets : List ℕ) (set : States) → ℕ → Place
-from nodes sets set = goes_to (node_at nodes) (holds_at nodes (known_by sets set))
-
--- The words are those of the set.
-of_set : (c : tie.After-words invariant_loop decreases_loop) → settled c.before.args.nodes.now c.before.args.sets.now (of_words c.words.result) c.before.args.at ≡ settled c.before.args.nodes.now c.before.args.sets.now c.before.args.set c.before.args.at
-of_set c = ap (λ (s : States). settled c.before.args.nodes.now c.before.args.sets.now s c.before.args.at) (ap of_words c.words.ensures ∙ words_back c.before.args.set)
-
--- Where a formula was asked for.
-asked_for : (c : tie.At-match2-branch invariant_loop decreases_loop) → AskedFor c.before.before.Node-at.result c.match2.node c.before.before.before.before.loop.i c.match2.asked
-asked_for c = ⊎_elim (λ w. inl (w.1.given.0.0, w.1.given.0.1.0, w.1.given.1, w.3, w.4)) (λ w. inr (w.0.keys2, w.1, w.2)) c.match2.branch
-
--- A branch, and that it asked for the formula behind it.
-branched : (c : tie.After-known-told4 invariant_loop decreases_loop) → (Node.Branch c.before.node4.given.0.0 c.before.node4.given.0.1.0 ≡ c.before.before.before.before.before.before.before.Node-at.result) × (c.before.before.before.before.before.match2.asked ≡ c.before.before.before.before.before.before.before.before.before.loop.i + 1)
-branched c = branch_asks _ _ _ _ _ _ (asked_for c.before.before.before.before.before) c.before.node4.given.1
-
-small : (c : tie.After-known-told4 invariant_loop decreases_loop) → (c.before.node4.given.0.0 < 65536) × (c.before.node4.given.0.1.0 < 65536)
-unfolding Small
-small c = subst Small (sym (branched c).0) c.before.before.before.before.before.before.before.Node-at.ensures.1
-
--- A branch leads on by what was told of its formula.
-module _ (c : tie.After-known-told4 invariant_loop decreases_loop) where
-  told : let a = c.before.before.before.before.before.before.before.before.before.before.before.args in
-      c.before.before.before.formula_holds.result ≡ holds_at a.nodes.now (known_by a.sets.now (of_words c.before.before.before.before.before.before.before.before.before.before.words.result)) (c.before.before.before.before.before.before.before.before.before.loop.i + 1)
-  told =
-      let a = c.before.before.before.before.before.before.before.before.before.before.before.args in
-      c.before.before.before.formula_holds.ensures ∙ ap (holds_at a.nodes.now (known_by a.sets.now (of_words c.before.before.before.before.before.before.before.before.before.before.words.result))) (branched c).1
+use Rattle.progression.proofs.place.settle.Goals.{in-Branch, in_default-node}
 
 pub loop-i-init : goal.loop-i-init
 loop-i-init c = settled_goes _ _ _ _
 
 pub returns-in-Act : goal.returns-in-Act
 unfolding Inside Small at_node
-returns-in-Act c =     (sym (c.loop-i.invariant ∙ goes_by _ _ c.loop-i.i (omega arith) (Node.Act _ _) (sym c.in-Act.is ∙ c.node_at-node.ensures.0)) ∙ of_set c, (omega arith, (subst Small c.in-Act.is c.node_at-node.ensures.1).0))
+returns-in-Act c =
+    let of_set = ap (λ (s : States). settled c.args.nodes.now c.args.sets.now s c.args.at) (ap of_words c.words-words.ensures ∙ words_back c.args.set) in
+    (sym (c.loop-i.invariant ∙ goes_by _ _ c.loop-i.i (omega arith) (Node.Act _ _) (sym c.in-Act.is ∙ c.node_at-node.ensures.0)) ∙ of_set, (omega arith, (subst Small c.in-Act.is c.node_at-node.ensures.1).0))
 
 pub overflow_add-i-in-Jump : goal.overflow_add-i-in-Jump
 unfolding Small
@@ -63,28 +39,71 @@ loop-i-preserved-in-Jump c = c.loop-i.invariant ∙ goes_by _ _ c.loop-i.i (omeg
 
 pub returns-in_default-node-2 : goal.returns-in_default-node-2
 unfolding Inside
-returns-in_default-node-2 c =     let a = c.args in
-    let end = end_asks _ _ _ _ (asked_for c) c.in_default.in_default-own.keys3 c.in_default-node-2.in_default-node-2-own.keys2 in (
+returns-in_default-node-2 c =
+    let asked : AskedFor c.node_at-node.result c.match-node-2.node c.loop-i.i c.match-node-2.asked =
+    elim c.match-node-2.branch [
+      | in-Branch w ↦ inl (w.in-Branch.met, w.in-Branch.unmet, w.in-Branch.is, w.node-is, w.asked-is)
+      | in_default-node w ↦ inr (opened w.in_default-node.in_default-node-own.keys2, w.node-is, w.asked-is)
+    ] in
+    let of_set = ap (λ (s : States). settled c.args.nodes.now c.args.sets.now s c.args.at) (ap of_words c.words-words.ensures ∙ words_back c.args.set) in
+    let a = c.args in
+    let end = end_asks _ _ _ _ asked (opened c.in_default.in_default-own.keys3) (opened c.in_default-node-2.in_default-node-2-own.keys2) in (
       ap Place.End (c.formula_holds-holds.ensures ∙ ap (holds_at a.nodes.now (known_by a.sets.now (of_words c.words-words.result))) end.1)
           ∙ sym (c.loop-i.invariant ∙ goes_by _ _ c.loop-i.i (omega arith) _ c.node_at-node.ensures.0 ∙ at_end _ _ c.loop-i.i _ end.0)
-          ∙ of_set c,
+          ∙ of_set,
       tt,
     )
 
 pub overflow_add-i-then-holds-2 : goal.overflow_add-i-then-holds-2
-overflow_add-i-then-holds-2 c = omega (arith, small c)
+unfolding Small
+overflow_add-i-then-holds-2 c =
+    let asked : AskedFor c.node_at-node.result c.match-node-2.node c.loop-i.i c.match-node-2.asked =
+    elim c.match-node-2.branch [
+      | in-Branch w ↦ inl (w.in-Branch.met, w.in-Branch.unmet, w.in-Branch.is, w.node-is, w.asked-is)
+      | in_default-node w ↦ inr (opened w.in_default-node.in_default-node-own.keys2, w.node-is, w.asked-is)
+    ] in
+    let branched = branch_asks _ _ _ _ _ _ asked c.in-Branch-node.is in
+    let small : (c.in-Branch-node.met < 65536) × (c.in-Branch-node.unmet < 65536) = subst Small (sym branched.0) c.node_at-node.ensures.1 in
+    omega (arith, small)
 
 pub loop-i-preserved-then-holds : goal.loop-i-preserved-then-holds
 unfolding if◌then◌else◌
-loop-i-preserved-then-holds c = c.loop-i.invariant ∙ goes_branch _ _ c.loop-i.i (omega arith) _ _ ((branched c).0 ∙ c.node_at-node.ensures.0) true (sym c.if-holds.true ∙ told c)
+loop-i-preserved-then-holds c =
+    let asked : AskedFor c.node_at-node.result c.match-node-2.node c.loop-i.i c.match-node-2.asked =
+    elim c.match-node-2.branch [
+      | in-Branch w ↦ inl (w.in-Branch.met, w.in-Branch.unmet, w.in-Branch.is, w.node-is, w.asked-is)
+      | in_default-node w ↦ inr (opened w.in_default-node.in_default-node-own.keys2, w.node-is, w.asked-is)
+    ] in
+    let branched = branch_asks _ _ _ _ _ _ asked c.in-Branch-node.is in
+    let told = c.formula_holds-holds.ensures ∙ ap (holds_at c.args.nodes.now (known_by c.args.sets.now (of_words c.words-words.result))) branched.1 in
+    c.loop-i.invariant ∙ goes_branch _ _ c.loop-i.i (omega arith) _ _ (branched.0 ∙ c.node_at-node.ensures.0) true (sym c.if-holds.true ∙ told)
 
 pub overflow_add-i-else-holds-2 : goal.overflow_add-i-else-holds-2
-overflow_add-i-else-holds-2 c = omega (arith, small c)
+unfolding Small
+overflow_add-i-else-holds-2 c =
+    let asked : AskedFor c.node_at-node.result c.match-node-2.node c.loop-i.i c.match-node-2.asked =
+    elim c.match-node-2.branch [
+      | in-Branch w ↦ inl (w.in-Branch.met, w.in-Branch.unmet, w.in-Branch.is, w.node-is, w.asked-is)
+      | in_default-node w ↦ inr (opened w.in_default-node.in_default-node-own.keys2, w.node-is, w.asked-is)
+    ] in
+    let branched = branch_asks _ _ _ _ _ _ asked c.in-Branch-node.is in
+    let small : (c.in-Branch-node.met < 65536) × (c.in-Branch-node.unmet < 65536) = subst Small (sym branched.0) c.node_at-node.ensures.1 in
+    omega (arith, small)
 
 pub loop-i-preserved : goal.loop-i-preserved
 unfolding if◌then◌else◌
-loop-i-preserved c = c.loop-i.invariant ∙ goes_branch _ _ c.loop-i.i (omega arith) _ _ ((branched c).0 ∙ c.node_at-node.ensures.0) false (sym c.if-holds.false ∙ told c)
+loop-i-preserved c =
+    let asked : AskedFor c.node_at-node.result c.match-node-2.node c.loop-i.i c.match-node-2.asked =
+    elim c.match-node-2.branch [
+      | in-Branch w ↦ inl (w.in-Branch.met, w.in-Branch.unmet, w.in-Branch.is, w.node-is, w.asked-is)
+      | in_default-node w ↦ inr (opened w.in_default-node.in_default-node-own.keys2, w.node-is, w.asked-is)
+    ] in
+    let branched = branch_asks _ _ _ _ _ _ asked c.in-Branch-node.is in
+    let told = c.formula_holds-holds.ensures ∙ ap (holds_at c.args.nodes.now (known_by c.args.sets.now (of_words c.words-words.result))) branched.1 in
+    c.loop-i.invariant ∙ goes_branch _ _ c.loop-i.i (omega arith) _ _ (branched.0 ∙ c.node_at-node.ensures.0) false (sym c.if-holds.false ∙ told)
 
 pub returns : goal.returns
 unfolding Inside
-returns c = (sym (c.loop-i.invariant ∙ goes_past _ _ c.loop-i.i (omega arith)) ∙ of_set c, tt)
+returns c =
+    let of_set = ap (λ (s : States). settled c.args.nodes.now c.args.sets.now s c.args.at) (ap of_words c.words-words.ensures ∙ words_back c.args.set) in
+    (sym (c.loop-i.invariant ∙ goes_past _ _ c.loop-i.i (omega arith)) ∙ of_set, tt)

@@ -19,7 +19,7 @@ use Rattle.progression.proofs.MachineLaws.{goes_to, goes_by, goes_branch, goes_p
 use Rattle.progression.proofs.place.settle.Given as goal
 
 abbrev pub invariant-loop-i : goal.invariant-loop-i
-invariant-loop-i l = settled l.nodes l.sets (of_words l.words) l.at ≡ from l.nodes l.sets (of_words l.words) l.i
+invariant-loop-i l = settled l.nodes l.sets (of_words l.words) l.at ≡ goes_to (node_at l.nodes) (holds_at l.nodes (known_by l.sets (of_words l.words))) l.i
 
 abbrev pub decreases-loop-i : goal.decreases-loop-i
 decreases-loop-i l = node_most - l.i

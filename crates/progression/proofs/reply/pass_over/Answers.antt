@@ -6,16 +6,9 @@ use Rattle.states.proofs.SetLaws.{Fitting}
 use Rattle.progression.proofs.PassLaws.{words_kept, all_evaluated, passed_is}
 use Rattle.progression.proofs.reply.pass_over.Goals as goal
 
--- The words of both sets fit.
-set_fits : (c : tie.After-pass-word) → Fitting c.before.before.args.set
-set_fits c = search rules
-
-reply_fits : (c : tie.After-pass-word) → Fitting c.before.before.args.reply
-reply_fits c = search rules
-
 pub returns : goal.returns
-returns c =     let h = set_fits c in
-    let g = reply_fits c in
+returns c = let h : Fitting c.args.set = search rules in
+    let g : Fitting c.args.reply = search rules in
     let p = c.pass_word.ensures in
     let q = c.pass_word-2.ensures in
     let r = c.pass_word-3.ensures in
@@ -23,13 +16,13 @@ returns c =     let h = set_fits c in
     passed_is _ _ _ _ _ (words_kept _ _ h g _ _ _ _ p.0 q.0 r.0 s.0) c.is_empty.ensures (all_evaluated _ h _ _ _ _ p.1 q.1 r.1 s.1)
 
 pub pass_word-requires-2 : goal.pass_word-requires-2
-pass_word-requires-2 c =     let h = set_fits c in
+pass_word-requires-2 c = let h : Fitting c.args.set = search rules in
     omega (arith, c.pass_word.ensures.1, ones-le 64 _ h.0)
 
 pub pass_word-requires-3 : goal.pass_word-requires-3
-pass_word-requires-3 c =     let h = set_fits c in
+pass_word-requires-3 c = let h : Fitting c.args.set = search rules in
     omega (arith, c.pass_word.ensures.1, c.pass_word-2.ensures.1, ones-le 64 _ h.0, ones-le 64 _ h.1)
 
 pub pass_word-requires-4 : goal.pass_word-requires-4
-pass_word-requires-4 c =     let h = set_fits c in
+pass_word-requires-4 c = let h : Fitting c.args.set = search rules in
     omega (arith, c.pass_word.ensures.1, c.pass_word-2.ensures.1, c.pass_word-3.ensures.1, ones-le 64 _ h.0, ones-le 64 _ h.1, ones-le 64 _ h.2)

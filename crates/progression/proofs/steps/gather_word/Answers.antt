@@ -11,22 +11,22 @@ use Rattle.progression.proofs.GatherLaws.{in_some, gather_start, gather_more, ga
 use Rattle.progression.proofs.steps.gather_word.Goals as goal
 
 pub loop-left-init : goal.loop-left-init
-loop-left-init c =     let e = c.empty-all.ensures in
+loop-left-init c = let e = c.empty-all.ensures in
     (c.ranges.word.fits, subst Fitting (sym e) (fitting_set_of (λ s. false)), gather_start _ _ _ e _)
 
 pub overflow_cast-b : goal.overflow_cast-b
-overflow_cast-b c =     let l = c.loop-left in
+overflow_cast-b c = let l = c.loop-left in
     omega (arith, (lowest_set 64 l.left c.loop-left-test.true l.invariant.0).0)
 
 pub overflow_add-first : goal.overflow_add-first
-overflow_add-first c =     let l = c.loop-left in
+overflow_add-first c = let l = c.loop-left in
     omega (arith, (lowest_set 64 l.left c.loop-left-test.true l.invariant.0).0)
 
 pub loop-left-smaller : goal.loop-left-smaller
-loop-left-smaller c =     cleared_less c.loop-left.left c.loop-left-test.true
+loop-left-smaller c = cleared_less c.loop-left.left c.loop-left-test.true
 
 pub loop-left-preserved : goal.loop-left-preserved
-loop-left-preserved c =     let l = c.loop-left in
+loop-left-preserved c = let l = c.loop-left in
     let n = c.loop-left-test.true in
     let u = c.union-all.ensures in (
       omega (arith, cleared_less l.left n),
@@ -35,6 +35,6 @@ loop-left-preserved c =     let l = c.loop-left in
     )
 
 pub returns : goal.returns
-returns c =     let a = c.args in
+returns c = let a = c.args in
     let l = c.loop-left in
     gather_end a.sets.now a.first l.all l.invariant.1 l.left (omega arith) ∙ l.invariant.2

@@ -11,7 +11,7 @@ use Rattle.progression.proofs.GatherLaws.{in_some, gather_start, gather_more, ga
 use Rattle.progression.proofs.steps.gather_word.Given as goal
 
 abbrev pub invariant-loop-left : goal.invariant-loop-left
-invariant-loop-left l =     (l.left < 2 ^ 64) × Fitting l.all × (set_of (λ t. member l.all t || in_some l.sets l.first l.left t) ≡ set_of (in_some l.sets l.first l.word))
+invariant-loop-left l = (l.left < 2 ^ 64) × Fitting l.all × (set_of (λ t. member l.all t || in_some l.sets l.first l.left t) ≡ set_of (in_some l.sets l.first l.word))
 
 abbrev pub decreases-loop-left : goal.decreases-loop-left
 decreases-loop-left l = l.left
