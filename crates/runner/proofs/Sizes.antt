@@ -1,7 +1,7 @@
 -- The lengths of a record's two arrays, from what owning the record tells: `c.good.0` of a function whose first parameter is the record. Assumes nothing.
 use mathlib.Core.List.{List}
-use mathlib.Core.Path.{◌≡◌, sym, ◌∙◌}
-use lib.ListN.{length, length-map}
+use mathlib.Core.Path.{◌≡◌}
+use lib.ListN.{length}
 use mir.Val.{Val}
 use denote.Laws.{Is}
 use denote.Struct.Declared.{row}
@@ -12,8 +12,8 @@ use Rattle.runner.specs.contracts.calls.Record.{the_type}
 module _ (r : Record) (vs : List Val) (good : Is (row the_type) r vs) where
   -- The sheet's array.
   pub sheet_size : length r.sheet ≡ most_bytes
-  sheet_size = sym (length-map r.sheet (λ v. v)) ∙ good.1.1.0.1.0.1
+  sheet_size = good.1.1.0.1.0.1
 
   -- The array of the replies.
   pub replies_size : length r.replies ≡ most_acts
-  replies_size = sym (length-map r.replies (λ v. v)) ∙ good.1.1.1.1.0.1.0.1
+  replies_size = good.1.1.1.1.0.1.0.1
