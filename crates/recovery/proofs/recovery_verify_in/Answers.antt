@@ -1,0 +1,8 @@
+-- `recovery::recovery_verify_in` meets its contract: the numbers are those of the verifier's answer, and the lent memories are as it leaves them. Assumes nothing.
+use Rattle.recovery.proofs.NumberLaws.{verdict_numbers_law}
+use borrow.Author.Rules.{rules}
+use Rattle.recovery.proofs.recovery_verify_in.Goals as goal
+
+pub returns : goal.returns
+returns c = let k = c.verify_in-answer.ensures in
+    (λ z. verdict_numbers_law _ _ _ (k.0 z) _ _ _ c.put_verdict.ensures c.number.ensures, k.1, k.2)
