@@ -10,10 +10,10 @@ use lib.ListN.{length}
 use borrow.Author.Tests.{eqb-true, leb-true}
 use Rattle.lists.specs.Lists.{if◌then◌else◌, nonempty}
 use Rattle.lists.proofs.ListLaws.{both_true, one_true}
-use Rattle.format.specs.Syntax.{Objective, bottom, top, fact, new-fact, negation, conjunction, disjunction, equivalence, Epistemic, known, not_known, all_of, any_of, end, Action, change, probe, Sheet}
+use Rattle.format.specs.Syntax.{Objective, bottom, top, fact, new_fact, negation, conjunction, disjunction, equivalence, Epistemic, known, not_known, all_of, any_of, end, Action, change, probe, Sheet}
 use Rattle.format.specs.Bits.{bits_at}
 use Rattle.format.specs.Truth.{states, moves}
-use Rattle.format.specs.Format.{refused, Read, got, fault, Reader, and_then, ◌>>=◌, give, refuse, check, field, fact_number, objective_behind, objective, EpistemicNode, known-node, not-known-node, all-of-node, any-of-node, epistemic_node, epistemic_behind, epistemic, objectives, Kind, changes, probes, kind, reply_total, theory_over, replies_over, action_behind, action, action_list, ProgramRead, ProgramNode, end_node, act_node, branch_node, program_node, program_behind, program_within, levels, program, most_bytes, most_facts, most_replies, deepest, most_acts, most_branches, Header, constraint_over, header_behind, header, body, sheet_fields, is_padding, has_start, leads_on, has_reply, unless, action_faults, faults, decided, after_fields, of_sheet, reading_by, is_edition, reading}
+use Rattle.format.specs.Format.{refused, Read, got, fault, Reader, and_then, ◌>>=◌, give, refuse, check, field, fact_number, objective_behind, objective, EpistemicNode, known_node, not_known_node, all_of_node, any_of_node, epistemic_node, epistemic_behind, epistemic, objectives, Kind, changes, probes, kind, reply_total, theory_over, replies_over, action_behind, action, action_list, ProgramRead, ProgramNode, end_node, act_node, branch_node, program_node, program_behind, program_within, levels, program, most_bytes, most_facts, most_replies, deepest, most_acts, most_branches, Header, constraint_over, header_behind, header, body, sheet_fields, is_padding, has_start, leads_on, has_reply, unless, action_faults, faults, decided, after_fields, of_sheet, reading_by, is_edition, reading}
 use Rattle.format.proofs.FormatLaws.{behind_fault, field_got}
 use Rattle.format.proofs.ReaderLaws.{sheet_short}
 use Rattle.format.proofs.FieldLaws.{edition_cut, edition_out}
@@ -81,7 +81,7 @@ module _ (n : ℕ) where
       numbered_if (eqb tag 0) _ _ (numbered_give bottom)
       (numbered_if (eqb tag 1) _ _ (numbered_give top)
       (numbered_if (eqb tag 2) _ _ (numbered_behind (fact_number n) _ fact_numbered (λ i. numbered_give (fact i)))
-      (numbered_if (eqb tag 3) _ _ (numbered_check theory 7 _ refl (numbered_behind (fact_number n) _ fact_numbered (λ i. numbered_give (new-fact i))))
+      (numbered_if (eqb tag 3) _ _ (numbered_check theory 7 _ refl (numbered_behind (fact_number n) _ fact_numbered (λ i. numbered_give (new_fact i))))
       (numbered_if (eqb tag 4) _ _ (numbered_behind part _ x (λ f. numbered_give (negation f)))
       (numbered_if (eqb tag 5) _ _ (two conjunction) (numbered_if (eqb tag 6) _ _ (two disjunction) (two equivalence)))))))
     where
@@ -97,14 +97,14 @@ module _ (n : ℕ) where
   unfolding epistemic_node
   epistemic_node_numbered =
       numbered_behind (field 2) _ (numbered_field 2) (λ tag.
-      numbered_if (eqb tag 0) _ _ (numbered_give known-node) (numbered_if (eqb tag 1) _ _ (numbered_give not-known-node) (numbered_if (eqb tag 2) _ _ (numbered_give all-of-node) (numbered_give any-of-node))))
+      numbered_if (eqb tag 0) _ _ (numbered_give known_node) (numbered_if (eqb tag 1) _ _ (numbered_give not_known_node) (numbered_if (eqb tag 2) _ _ (numbered_give all_of_node) (numbered_give any_of_node))))
 
   epistemic_behind_numbered : (inside : Reader Objective) (part : Reader Epistemic) → Numbered inside → Numbered part → (h : EpistemicNode) → Numbered (epistemic_behind inside part h)
   unfolding epistemic_behind
-  epistemic_behind_numbered inside part x y known-node = numbered_behind inside _ x (λ f. numbered_give (known f))
-  epistemic_behind_numbered inside part x y not-known-node = numbered_behind inside _ x (λ f. numbered_give (not_known f))
-  epistemic_behind_numbered inside part x y all-of-node = numbered_behind part _ y (λ f. numbered_behind part _ y (λ g. numbered_give (all_of f g)))
-  epistemic_behind_numbered inside part x y any-of-node = numbered_behind part _ y (λ f. numbered_behind part _ y (λ g. numbered_give (any_of f g)))
+  epistemic_behind_numbered inside part x y known_node = numbered_behind inside _ x (λ f. numbered_give (known f))
+  epistemic_behind_numbered inside part x y not_known_node = numbered_behind inside _ x (λ f. numbered_give (not_known f))
+  epistemic_behind_numbered inside part x y all_of_node = numbered_behind part _ y (λ f. numbered_behind part _ y (λ g. numbered_give (all_of f g)))
+  epistemic_behind_numbered inside part x y any_of_node = numbered_behind part _ y (λ f. numbered_behind part _ y (λ g. numbered_give (any_of f g)))
 
   epistemic_numbered : (d : ℕ) → Numbered (epistemic n d)
   unfolding epistemic

@@ -8,7 +8,7 @@ use lib.Dec.{leb, eqb}
 use borrow.Author.Tests.{le-leb, lt-leb, le-ltb, lt-ltb}
 use Rattle.lists.specs.Lists.{if◌then◌else◌}
 use Rattle.format.specs.Syntax.{Objective, top}
-use Rattle.format.specs.Format.{got, fault, and_then, ◌>>=◌, give, refuse, check, field, most_facts, most_replies, most_acts, most_branches, deepest, objective, constraint_over, changes, probes, kind, reply_total, known-node, not-known-node, all-of-node, any-of-node, epistemic_node, end_node, act_node, branch_node, program_node, header_behind, header}
+use Rattle.format.specs.Format.{got, fault, and_then, ◌>>=◌, give, refuse, check, field, most_facts, most_replies, most_acts, most_branches, deepest, objective, constraint_over, changes, probes, kind, reply_total, known_node, not_known_node, all_of_node, any_of_node, epistemic_node, end_node, act_node, branch_node, program_node, header_behind, header}
 
 -- The test "1 to 8".
 module _ (m : ℕ) where
@@ -125,22 +125,22 @@ module _ (bytes : List ℕ) (p : ℕ) where
 
   module _ {tag q : ℕ} (e : field 2 bytes p ≡ got tag q) where
     -- Tag 0 is known.
-    pub known_first : eqb tag 0 ≡ true → epistemic_node bytes p ≡ got known-node q
+    pub known_first : eqb tag 0 ≡ true → epistemic_node bytes p ≡ got known_node q
     unfolding epistemic_node ◌>>=◌ and_then give if◌then◌else◌
     known_first t = rw (e, t)
 
     -- Tag 1 is not known.
-    pub not_known_first : eqb tag 0 ≡ false → eqb tag 1 ≡ true → epistemic_node bytes p ≡ got not-known-node q
+    pub not_known_first : eqb tag 0 ≡ false → eqb tag 1 ≡ true → epistemic_node bytes p ≡ got not_known_node q
     unfolding epistemic_node ◌>>=◌ and_then give if◌then◌else◌
     not_known_first t u = rw (e, t, u)
 
     -- Tag 2 is and.
-    pub all_of_first : eqb tag 0 ≡ false → eqb tag 1 ≡ false → eqb tag 2 ≡ true → epistemic_node bytes p ≡ got all-of-node q
+    pub all_of_first : eqb tag 0 ≡ false → eqb tag 1 ≡ false → eqb tag 2 ≡ true → epistemic_node bytes p ≡ got all_of_node q
     unfolding epistemic_node ◌>>=◌ and_then give if◌then◌else◌
     all_of_first t u v = rw (e, t, u, v)
 
     -- Any other tag is or.
-    pub any_of_first : eqb tag 0 ≡ false → eqb tag 1 ≡ false → eqb tag 2 ≡ false → epistemic_node bytes p ≡ got any-of-node q
+    pub any_of_first : eqb tag 0 ≡ false → eqb tag 1 ≡ false → eqb tag 2 ≡ false → epistemic_node bytes p ≡ got any_of_node q
     unfolding epistemic_node ◌>>=◌ and_then give if◌then◌else◌
     any_of_first t u v = rw (e, t, u, v)
 

@@ -6,7 +6,7 @@ use mathlib.Core.Bool.{Bool}
 use native.Mathlib.Omega.{arith}
 use lib.Dec.{ltb, eqb}
 use lib.ListN.{length}
-use Rattle.format.specs.Syntax.{Objective, bottom, top, fact, new-fact, negation, conjunction, disjunction, equivalence}
+use Rattle.format.specs.Syntax.{Objective, bottom, top, fact, new_fact, negation, conjunction, disjunction, equivalence}
 use Rattle.format.specs.Format.{got, Reader, ◌>>=◌, give, field, fact_number, objective_behind, objective}
 use Rattle.format.proofs.FormatLaws.{Finds, finds_give, finds_refuse, finds_if, finds_check, finds_behind, Keeps, keeps_if, keeps_refuse, keeps_behind, keeps_levels, finds_field}
 
@@ -63,7 +63,7 @@ objective_behind_onward n theory part bytes onward p low tag =
     finds_if bytes p Q (eqb tag 0) _ _ (λ t. finds_give bytes p Q bottom (omega arith, low))
     (λ t. finds_if bytes p Q (eqb tag 1) _ _ (λ u. finds_give bytes p Q top (omega arith, low))
     (λ u. finds_if bytes p Q (eqb tag 2) _ _ (λ v. number fact)
-    (λ v. finds_if bytes p Q (eqb tag 3) _ _ (λ w. finds_check bytes p Q theory 7 _ (λ x. number new-fact))
+    (λ v. finds_if bytes p Q (eqb tag 3) _ _ (λ w. finds_check bytes p Q theory 7 _ (λ x. number new_fact))
     (λ w. finds_if bytes p Q (eqb tag 4) _ _ (λ x. finds_behind bytes p Q part _ (λ f r e. let g = onward p f r e in finds_give bytes r Q (negation f) g))
     (λ x. finds_if bytes p Q (eqb tag 5) _ _ (λ y. two conjunction)
     (λ y. finds_if bytes p Q (eqb tag 6) _ _ (λ z. two disjunction)

@@ -10,7 +10,7 @@ use lib.ListN.{length}
 use borrow.Author.Tests.{lt-ltb, le-ltb, le-leb, lt-leb}
 use Rattle.lists.specs.Lists.{if◌then◌else◌}
 use Rattle.format.specs.Syntax.{Objective, Epistemic, known, not_known, all_of, any_of, Action, change, probe, end}
-use Rattle.format.specs.Format.{Read, got, fault, Reader, and_then, ◌>>=◌, mapped, give, refuse, check, field, most_bytes, deepest, fact_number, objective_behind, objective, EpistemicNode, known-node, not-known-node, all-of-node, any-of-node, epistemic_node, epistemic_behind, epistemic, objectives, changes, probes, kind, reply_total, theory_over, replies_over, action_behind, action, action_list, ProgramNode, program_node, program_behind, program_within, of_sheet}
+use Rattle.format.specs.Format.{Read, got, fault, Reader, and_then, ◌>>=◌, mapped, give, refuse, check, field, most_bytes, deepest, fact_number, objective_behind, objective, EpistemicNode, known_node, not_known_node, all_of_node, any_of_node, epistemic_node, epistemic_behind, epistemic, objectives, changes, probes, kind, reply_total, theory_over, replies_over, action_behind, action, action_list, ProgramNode, program_node, program_behind, program_within, of_sheet}
 use Rattle.format.proofs.FormatLaws.{Behind, got_behind, behind_got, behind_fault}
 
 module _ {A B : Type 0} (f : A → B) where
@@ -147,11 +147,11 @@ module _ (n : ℕ) (bytes : List ℕ) (p : ℕ) where
 
 -- An epistemic formula behind its first node.
 module _ (inside : Reader Objective) (part : Reader Epistemic) (bytes : List ℕ) (q : ℕ) where
-  pub known_behind : epistemic_behind inside part known-node bytes q ≡ mapped known (inside bytes q)
+  pub known_behind : epistemic_behind inside part known_node bytes q ≡ mapped known (inside bytes q)
   unfolding epistemic_behind
   known_behind = give_mapped known inside bytes q
 
-  pub not_known_behind : epistemic_behind inside part not-known-node bytes q ≡ mapped not_known (inside bytes q)
+  pub not_known_behind : epistemic_behind inside part not_known_node bytes q ≡ mapped not_known (inside bytes q)
   unfolding epistemic_behind
   not_known_behind = give_mapped not_known inside bytes q
 
@@ -160,29 +160,29 @@ module _ (inside : Reader Objective) (part : Reader Epistemic) (bytes : List ℕ
   two make {f} {i} e = behind_got part (λ f. part >>= λ g. give (make f g)) bytes q e ∙ give_mapped (make f) part bytes i
 
   module _ {f : Epistemic} {i : ℕ} (e : part bytes q ≡ got f i) where
-    pub all_of_behind : epistemic_behind inside part all-of-node bytes q ≡ mapped (all_of f) (part bytes i)
+    pub all_of_behind : epistemic_behind inside part all_of_node bytes q ≡ mapped (all_of f) (part bytes i)
     unfolding epistemic_behind
     all_of_behind = two all_of e
 
-    pub any_of_behind : epistemic_behind inside part any-of-node bytes q ≡ mapped (any_of f) (part bytes i)
+    pub any_of_behind : epistemic_behind inside part any_of_node bytes q ≡ mapped (any_of f) (part bytes i)
     unfolding epistemic_behind
     any_of_behind = two any_of e
 
   module _ {r : ℕ} (e : part bytes q ≡ fault r) where
-    pub all_of_refused : epistemic_behind inside part all-of-node bytes q ≡ fault r
+    pub all_of_refused : epistemic_behind inside part all_of_node bytes q ≡ fault r
     unfolding epistemic_behind
     all_of_refused = behind_fault part (λ f. part >>= λ g. give (all_of f g)) bytes q e
 
-    pub any_of_refused : epistemic_behind inside part any-of-node bytes q ≡ fault r
+    pub any_of_refused : epistemic_behind inside part any_of_node bytes q ≡ fault r
     unfolding epistemic_behind
     any_of_refused = behind_fault part (λ f. part >>= λ g. give (any_of f g)) bytes q e
 
   -- Such a formula that was read: its parts.
   module _ (f : Epistemic) (i : ℕ) where
-    pub known_split : epistemic_behind inside part known-node bytes q ≡ got f i → (g : Objective) × (inside bytes q ≡ got g i) × (known g ≡ f)
+    pub known_split : epistemic_behind inside part known_node bytes q ≡ got f i → (g : Objective) × (inside bytes q ≡ got g i) × (known g ≡ f)
     known_split e = mapped_got known (inside bytes q) (sym known_behind ∙ e)
 
-    pub not_known_split : epistemic_behind inside part not-known-node bytes q ≡ got f i → (g : Objective) × (inside bytes q ≡ got g i) × (not_known g ≡ f)
+    pub not_known_split : epistemic_behind inside part not_known_node bytes q ≡ got f i → (g : Objective) × (inside bytes q ≡ got g i) × (not_known g ≡ f)
     not_known_split e = mapped_got not_known (inside bytes q) (sym not_known_behind ∙ e)
 
     -- Two parts and what is made of them.
@@ -200,11 +200,11 @@ module _ (inside : Reader Objective) (part : Reader Epistemic) (bytes : List ℕ
         let v = mapped_got (make w.value) (part bytes w.middle) (sym (give_mapped (make w.value) part bytes w.middle) ∙ w.second) in
         record { first = w.value; middle = w.middle; second = v.0; first_read = w.first; second_read = v.1; is = v.2 }
 
-    pub all_of_split : epistemic_behind inside part all-of-node bytes q ≡ got f i → Pair all_of
+    pub all_of_split : epistemic_behind inside part all_of_node bytes q ≡ got f i → Pair all_of
     unfolding epistemic_behind
     all_of_split e = two_split all_of e
 
-    pub any_of_split : epistemic_behind inside part any-of-node bytes q ≡ got f i → Pair any_of
+    pub any_of_split : epistemic_behind inside part any_of_node bytes q ≡ got f i → Pair any_of
     unfolding epistemic_behind
     any_of_split e = two_split any_of e
 
@@ -226,12 +226,12 @@ read_levels n bytes (suc l) p f q e =
   where
     go : (h : EpistemicNode) (r : ℕ) → epistemic_behind (objective n false (suc l - 1)) (epistemic n (suc l - 1)) h bytes r ≡ got f q
         → ((i : ℕ) (g : Epistemic) (j : ℕ) → epistemic n (suc l - 1) bytes i ≡ got g j → Levels g (suc l - 1)) → Levels f (suc l)
-    go known-node r d parts = subst (λ (g : Epistemic). Levels g (suc l)) (known_split _ _ bytes r f q d).2 (omega arith)
-    go not-known-node r d parts = subst (λ (g : Epistemic). Levels g (suc l)) (not_known_split _ _ bytes r f q d).2 (omega arith)
-    go all-of-node r d parts =
+    go known_node r d parts = subst (λ (g : Epistemic). Levels g (suc l)) (known_split _ _ bytes r f q d).2 (omega arith)
+    go not_known_node r d parts = subst (λ (g : Epistemic). Levels g (suc l)) (not_known_split _ _ bytes r f q d).2 (omega arith)
+    go all_of_node r d parts =
         let w = all_of_split _ _ bytes r f q d in
         subst (λ (g : Epistemic). Levels g (suc l)) w.is (omega arith, parts r w.first w.middle w.first_read, parts w.middle w.second q w.second_read)
-    go any-of-node r d parts =
+    go any_of_node r d parts =
         let w = any_of_split _ _ bytes r f q d in
         subst (λ (g : Epistemic). Levels g (suc l)) w.is (omega arith, parts r w.first w.middle w.first_read, parts w.middle w.second q w.second_read)
 

@@ -11,9 +11,9 @@ use lib.ListN.{length, get_or, get_or-eq_default}
 use borrow.Author.Tests.{leb-true, ltb-true, ltb-false, eq-eqb}
 use Rattle.lists.specs.Lists.{if◌then◌else◌, up_from, below, exists, nonempty}
 use Rattle.lists.proofs.ListLaws.{not_both, both_true, and_both, mem_flat, every_mem, mem_every, exists_mem, mem_exists}
-use Rattle.format.specs.Syntax.{Objective, bottom, top, fact, new-fact, negation, conjunction, disjunction, equivalence, Epistemic, known, not_known, all_of, any_of, Program, end, act, branch, Action, change, probe, reply_count, action_nodes, branch_nodes, Sheet, action_of}
+use Rattle.format.specs.Syntax.{Objective, bottom, top, fact, new_fact, negation, conjunction, disjunction, equivalence, Epistemic, known, not_known, all_of, any_of, Program, end, act, branch, Action, change, probe, reply_count, action_nodes, branch_nodes, Sheet, action_of}
 use Rattle.format.specs.Truth.{is_state, states, truth, holds, moves, reply_holds, allowed}
-use Rattle.format.specs.Format.{gives, refused, Read, got, fault, Reader, and_then, ◌>>=◌, give, field, fact_number, objective_behind, objective, EpistemicNode, known-node, not-known-node, all-of-node, any-of-node, epistemic_node, epistemic_behind, epistemic, objectives, Kind, changes, probes, kind, reply_total, theory_over, replies_over, action_behind, action, action_list, ProgramRead, ProgramNode, end_node, act_node, branch_node, program_node, program_behind, program_within, levels, program, most_bytes, most_facts, most_replies, deepest, most_acts, most_branches, Header, constraint_over, header_behind, header, body, sheet_fields, is_padding, has_start, leads_on, has_reply, unless, action_faults, faults, decided, after_fields, of_sheet, reading_by, is_edition, reading, Says}
+use Rattle.format.specs.Format.{gives, refused, Read, got, fault, Reader, and_then, ◌>>=◌, give, field, fact_number, objective_behind, objective, EpistemicNode, known_node, not_known_node, all_of_node, any_of_node, epistemic_node, epistemic_behind, epistemic, objectives, Kind, changes, probes, kind, reply_total, theory_over, replies_over, action_behind, action, action_list, ProgramRead, ProgramNode, end_node, act_node, branch_node, program_node, program_behind, program_within, levels, program, most_bytes, most_facts, most_replies, deepest, most_acts, most_branches, Header, constraint_over, header_behind, header, body, sheet_fields, is_padding, has_start, leads_on, has_reply, unless, action_faults, faults, decided, after_fields, of_sheet, reading_by, is_edition, reading, Says}
 use Rattle.format.proofs.StateLaws.{state_listed, listed_state}
 use Rattle.format.proofs.FormatLaws.{Gives, gives_give, gives_refuse, gives_if, gives_check, gives_behind, gives_any, field_below, NumbersBelow, Counts, program_counts}
 
@@ -293,7 +293,7 @@ unfoldable pub FactsBelow : (n : ℕ) → Objective → Type 0
 FactsBelow n bottom = Unit {0}
 FactsBelow n top = Unit {0}
 FactsBelow n (fact i) = i < n
-FactsBelow n (new-fact i) = i < n
+FactsBelow n (new_fact i) = i < n
 FactsBelow n (negation f) = FactsBelow n f
 FactsBelow n (conjunction f g) = FactsBelow n f × FactsBelow n g
 FactsBelow n (disjunction f g) = FactsBelow n f × FactsBelow n g
@@ -304,7 +304,7 @@ unfoldable pub NoNew : Objective → Type 0
 NoNew bottom = Unit {0}
 NoNew top = Unit {0}
 NoNew (fact i) = Unit {0}
-NoNew (new-fact i) = ⊥
+NoNew (new_fact i) = ⊥
 NoNew (negation f) = NoNew f
 NoNew (conjunction f g) = NoNew f × NoNew g
 NoNew (disjunction f g) = NoNew f × NoNew g
@@ -316,7 +316,7 @@ unfolding truth holds NoNew
 truth_outside bottom s t h = refl
 truth_outside top s t h = refl
 truth_outside (fact i) s t h = refl
-truth_outside (new-fact i) s t h = absurd h
+truth_outside (new_fact i) s t h = absurd h
 truth_outside (negation f) s t h = ap not (truth_outside f s t h)
 truth_outside (conjunction f g) s t h = rw (truth_outside f s t h.0, truth_outside g s t h.1)
 truth_outside (disjunction f g) s t h = rw (truth_outside f s t h.0, truth_outside g s t h.1)
@@ -369,7 +369,7 @@ module _ (n : ℕ) where
       (gives_if Q (eqb tag 1) _ _ (gives_give Q top (tt, λ o. tt))
       (gives_if Q (eqb tag 2) _ _ (gives_behind (λ i. i < n) Q (fact_number n) _ number_within (λ i h. gives_give Q (fact i) (h, λ o. tt)))
       (gives_if Q (eqb tag 3) _ _
-      (gives_check Q theory 7 _ (λ t. gives_behind (λ i. i < n) Q (fact_number n) _ number_within (λ i h. gives_give Q (new-fact i) (h, λ o. not_both t o))))
+      (gives_check Q theory 7 _ (λ t. gives_behind (λ i. i < n) Q (fact_number n) _ number_within (λ i h. gives_give Q (new_fact i) (h, λ o. not_both t o))))
       (gives_if Q (eqb tag 4) _ _ (gives_behind Q Q part _ within (λ f h. gives_give Q (negation f) h))
       (gives_if Q (eqb tag 5) _ _ (two conjunction (λ f g x y. (x, y)) (λ f g x y. (x, y)))
       (gives_if Q (eqb tag 6) _ _ (two disjunction (λ f g x y. (x, y)) (λ f g x y. (x, y)))
@@ -400,11 +400,11 @@ module _ (n : ℕ) where
   epistemic_behind_facts : (inside : Reader Objective) (part : Reader Epistemic) → Gives (ObjectiveFacts n) inside → Gives (EpistemicFacts n) part → (h : EpistemicNode)
       → Gives (EpistemicFacts n) (epistemic_behind inside part h)
   unfolding epistemic_behind EpistemicFacts
-  epistemic_behind_facts inside part x y known-node = gives_behind (ObjectiveFacts n) (EpistemicFacts n) inside _ x (λ f h. gives_give (EpistemicFacts n) (known f) h)
-  epistemic_behind_facts inside part x y not-known-node = gives_behind (ObjectiveFacts n) (EpistemicFacts n) inside _ x (λ f h. gives_give (EpistemicFacts n) (not_known f) h)
-  epistemic_behind_facts inside part x y all-of-node =
+  epistemic_behind_facts inside part x y known_node = gives_behind (ObjectiveFacts n) (EpistemicFacts n) inside _ x (λ f h. gives_give (EpistemicFacts n) (known f) h)
+  epistemic_behind_facts inside part x y not_known_node = gives_behind (ObjectiveFacts n) (EpistemicFacts n) inside _ x (λ f h. gives_give (EpistemicFacts n) (not_known f) h)
+  epistemic_behind_facts inside part x y all_of_node =
       gives_behind (EpistemicFacts n) (EpistemicFacts n) part _ y (λ f h. gives_behind (EpistemicFacts n) (EpistemicFacts n) part _ y (λ g k. gives_give (EpistemicFacts n) (all_of f g) (h, k)))
-  epistemic_behind_facts inside part x y any-of-node =
+  epistemic_behind_facts inside part x y any_of_node =
       gives_behind (EpistemicFacts n) (EpistemicFacts n) part _ y (λ f h. gives_behind (EpistemicFacts n) (EpistemicFacts n) part _ y (λ g k. gives_give (EpistemicFacts n) (any_of f g) (h, k)))
 
   epistemic_facts : (d : ℕ) → Gives (EpistemicFacts n) (epistemic n d)

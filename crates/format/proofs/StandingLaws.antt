@@ -10,7 +10,7 @@ use borrow.Author.Tests.{ltb-true}
 use Rattle.lists.proofs.ListLaws.{both_true}
 use Rattle.format.proofs.ReaderLaws.{Levels, read_levels}
 use Rattle.format.specs.Syntax.{Objective, Epistemic, known, not_known, all_of, any_of, Program, end, act, branch, Action, change, probe, Sheet}
-use Rattle.format.specs.Format.{gives, got, Reader, field, deepest, objective, EpistemicNode, known-node, not-known-node, all-of-node, any-of-node, epistemic_node, epistemic_behind, epistemic, objectives, Kind, changes, probes, kind, reply_total, theory_over, replies_over, action_behind, action, action_list, ProgramRead, ProgramNode, end_node, act_node, branch_node, program_node, program_behind, program_within, levels, program, Header, constraint_over, header_behind, header, body, is_edition, sheet_fields, is_padding, most_bytes, most_facts, most_replies, most_acts, most_branches, reading, Says}
+use Rattle.format.specs.Format.{gives, got, Reader, field, deepest, objective, EpistemicNode, known_node, not_known_node, all_of_node, any_of_node, epistemic_node, epistemic_behind, epistemic, objectives, Kind, changes, probes, kind, reply_total, theory_over, replies_over, action_behind, action, action_list, ProgramRead, ProgramNode, end_node, act_node, branch_node, program_node, program_behind, program_within, levels, program, Header, constraint_over, header_behind, header, body, is_edition, sheet_fields, is_padding, most_bytes, most_facts, most_replies, most_acts, most_branches, reading, Says}
 use Rattle.format.specs.Standing.{ObjectiveAt, RepliesAt, ActionAt, ActionsAt, EpistemicAt, ProgramAt, Standing}
 use Rattle.format.proofs.FormatLaws.{Finds, finds_give, finds_refuse, finds_if, finds_check, finds_behind, finds_field, got_behind, node_anywhere}
 use Rattle.format.proofs.FormulaLaws.{objective_levels, objective_onward}
@@ -54,11 +54,11 @@ module _ (bytes : List ℕ) (n : ℕ) where
       → ((f : Epistemic) (r q : ℕ) → part bytes r ≡ got f q → EpistemicAt bytes n f r q) → (p r : ℕ) (h : EpistemicNode) → epistemic_node bytes p ≡ got h r
       → Finds bytes r (λ f q. EpistemicAt bytes n f p q) (epistemic_behind inside part h)
   unfolding epistemic_behind EpistemicAt
-  standing_epistemic_behind inside part x y p r known-node e = finds_behind bytes r _ inside _ (λ f q h. finds_give bytes q _ (known f) (r, e, x f r q h))
-  standing_epistemic_behind inside part x y p r not-known-node e = finds_behind bytes r _ inside _ (λ f q h. finds_give bytes q _ (not_known f) (r, e, x f r q h))
-  standing_epistemic_behind inside part x y p r all-of-node e =
+  standing_epistemic_behind inside part x y p r known_node e = finds_behind bytes r _ inside _ (λ f q h. finds_give bytes q _ (known f) (r, e, x f r q h))
+  standing_epistemic_behind inside part x y p r not_known_node e = finds_behind bytes r _ inside _ (λ f q h. finds_give bytes q _ (not_known f) (r, e, x f r q h))
+  standing_epistemic_behind inside part x y p r all_of_node e =
       finds_behind bytes r _ part _ (λ f i h. finds_behind bytes i _ part _ (λ g q j. finds_give bytes q _ (all_of f g) (r, e, i, y f r i h, y g i q j)))
-  standing_epistemic_behind inside part x y p r any-of-node e =
+  standing_epistemic_behind inside part x y p r any_of_node e =
       finds_behind bytes r _ part _ (λ f i h. finds_behind bytes i _ part _ (λ g q j. finds_give bytes q _ (any_of f g) (r, e, i, y f r i h, y g i q j)))
 
   -- An epistemic formula that is read, with at most 16 levels, stands there.
@@ -132,10 +132,10 @@ module _ (bytes : List ℕ) (p : ℕ) where
   unfolding epistemic_node
   epistemic_node_inside =
       finds_field bytes p _ 2 (p + 2) refl _ (λ tag e low.
-      finds_if bytes (p + 2) _ (eqb tag 0) _ _ (λ t. finds_give bytes (p + 2) _ known-node (omega arith, low))
-      (λ t. finds_if bytes (p + 2) _ (eqb tag 1) _ _ (λ u. finds_give bytes (p + 2) _ not-known-node (omega arith, low))
-      (λ u. finds_if bytes (p + 2) _ (eqb tag 2) _ _ (λ v. finds_give bytes (p + 2) _ all-of-node (omega arith, low))
-      (λ v. finds_give bytes (p + 2) _ any-of-node (omega arith, low)))))
+      finds_if bytes (p + 2) _ (eqb tag 0) _ _ (λ t. finds_give bytes (p + 2) _ known_node (omega arith, low))
+      (λ t. finds_if bytes (p + 2) _ (eqb tag 1) _ _ (λ u. finds_give bytes (p + 2) _ not_known_node (omega arith, low))
+      (λ u. finds_if bytes (p + 2) _ (eqb tag 2) _ _ (λ v. finds_give bytes (p + 2) _ all_of_node (omega arith, low))
+      (λ v. finds_give bytes (p + 2) _ any_of_node (omega arith, low)))))
 
   pub program_node_inside : Finds bytes p (λ a q. (p + 2 ≤ q) × (q ≤ 8 * length bytes)) (program_node 0 0)
   unfolding program_node
@@ -187,20 +187,20 @@ module _ (bytes : List ℕ) (n : ℕ) where
   pub epistemic_inside : (f : Epistemic) (p q : ℕ) → EpistemicAt bytes n f p q → (p < q) × (q ≤ 8 * length bytes)
   unfolding EpistemicAt
   epistemic_inside (known f) p q s =
-      let h = (epistemic_node_inside bytes p).found known-node s.0 s.1 in
+      let h = (epistemic_node_inside bytes p).found known_node s.0 s.1 in
       let x = objective_inside false f s.0 q s.2 in
       (omega arith, x.1)
   epistemic_inside (not_known f) p q s =
-      let h = (epistemic_node_inside bytes p).found not-known-node s.0 s.1 in
+      let h = (epistemic_node_inside bytes p).found not_known_node s.0 s.1 in
       let x = objective_inside false f s.0 q s.2 in
       (omega arith, x.1)
   epistemic_inside (all_of f g) p q s =
-      let h = (epistemic_node_inside bytes p).found all-of-node s.0 s.1 in
+      let h = (epistemic_node_inside bytes p).found all_of_node s.0 s.1 in
       let x = epistemic_inside f s.0 s.2 s.3 in
       let y = epistemic_inside g s.2 q s.4 in
       (omega arith, y.1)
   epistemic_inside (any_of f g) p q s =
-      let h = (epistemic_node_inside bytes p).found any-of-node s.0 s.1 in
+      let h = (epistemic_node_inside bytes p).found any_of_node s.0 s.1 in
       let x = epistemic_inside f s.0 s.2 s.3 in
       let y = epistemic_inside g s.2 q s.4 in
       (omega arith, y.1)

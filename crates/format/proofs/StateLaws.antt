@@ -12,7 +12,7 @@ use borrow.Author.Tests.{eqb-true, eq-eqb, ltb-true, lt-ltb, le-ltb}
 use Rattle.lists.specs.Lists.{if◌then◌else◌, up_from, below, keep, Sorted}
 use Rattle.lists.proofs.ListLaws.{not_both, both_true, and_both, or_left, or_right, keep_mem, mem_keep, mem_up_from}
 use Rattle.lists.proofs.OrderLaws.{sorted_keep, sorted_up_from}
-use Rattle.format.specs.Syntax.{Objective, bottom, top, fact, new-fact, negation, conjunction, disjunction, equivalence, Action, change, probe, reply_count, Sheet}
+use Rattle.format.specs.Syntax.{Objective, bottom, top, fact, new_fact, negation, conjunction, disjunction, equivalence, Action, change, probe, reply_count, Sheet}
 use Rattle.format.specs.Truth.{in_space, space_of, is_state, states, fact_in, truth, holds, mentions_new, moves, reply_holds}
 
 module _ (sheet : Sheet) where
@@ -115,7 +115,7 @@ module _ (s t u : ℕ) where
   truth_free bottom h = refl
   truth_free top h = refl
   truth_free (fact j) h = refl
-  truth_free (new-fact j) h = h j (eq-eqb j j refl)
+  truth_free (new_fact j) h = h j (eq-eqb j j refl)
   truth_free (negation f) h = ap not (truth_free f h)
   truth_free (conjunction f g) h = rw (left f g h (truth_free f), right f g h (truth_free g))
   truth_free (disjunction f g) h = rw (left f g h (truth_free f), right f g h (truth_free g))

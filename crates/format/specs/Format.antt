@@ -2,7 +2,7 @@
 use Rattle.std.specs.Prelude.{ℕ, zero, suc, ◌+◌, ◌-◌, ◌*◌, ◌≤◌, ◌≡◌, Bool, true, false, ◌&&◌, ◌||◌, length, leb, ltb, eqb}
 use mathlib.Core.List.{List, [], ◌∷◌, ◌++◌, flat_map}
 use Rattle.lists.specs.Lists.{if◌then◌else◌, up_from, below, every, exists, nonempty}
-use Rattle.format.specs.Syntax.{Objective, bottom, top, fact, new-fact, negation, conjunction, disjunction, equivalence, Epistemic, known, not_known, all_of, any_of, Program, end, act, branch, Action, change, probe, reply_count, Sheet}
+use Rattle.format.specs.Syntax.{Objective, bottom, top, fact, new_fact, negation, conjunction, disjunction, equivalence, Epistemic, known, not_known, all_of, any_of, Program, end, act, branch, Action, change, probe, reply_count, Sheet}
 use Rattle.format.specs.Truth.{states, holds, moves, reply_holds}
 use Rattle.format.specs.Bits.{bits_at}
 
@@ -97,7 +97,7 @@ objective_behind n theory part tag =
     if eqb tag 0 then give bottom
     else if eqb tag 1 then give top
     else if eqb tag 2 then (do i ← fact_number n; give (fact i))
-    else if eqb tag 3 then check theory 7 (do i ← fact_number n; give (new-fact i))
+    else if eqb tag 3 then check theory 7 (do i ← fact_number n; give (new_fact i))
     else if eqb tag 4 then (do f ← part; give (negation f))
     else if eqb tag 5 then (do f ← part; g ← part; give (conjunction f g))
     else if eqb tag 6 then (do f ← part; g ← part; give (disjunction f g))
@@ -112,21 +112,21 @@ objective n theory (suc d) = field 3 >>= objective_behind n theory (objective n 
 -- The first node of an epistemic formula. "Epistemic formula: 2-bit tag. 0 known (an objective formula follows); 1 not known (likewise); 2 and; 3 or (two epistemic
 -- formulas follow)."
 pub data EpistemicNode : Type 0 where
-  known-node not-known-node all-of-node any-of-node : EpistemicNode
+  known_node not_known_node all_of_node any_of_node : EpistemicNode
 
 unfoldable pub epistemic_node : Reader EpistemicNode
 unfolding field ◌>>=◌ give if◌then◌else◌
 epistemic_node = do
   tag ← field 2
-  if eqb tag 0 then give known-node else if eqb tag 1 then give not-known-node else if eqb tag 2 then give all-of-node else give any-of-node
+  if eqb tag 0 then give known_node else if eqb tag 1 then give not_known_node else if eqb tag 2 then give all_of_node else give any_of_node
 
 -- An epistemic formula behind its first node. `inside` reads an objective formula one deeper, `part` an epistemic one.
 unfoldable pub epistemic_behind : (inside : Reader Objective) (part : Reader Epistemic) → EpistemicNode → Reader Epistemic
 unfolding ◌>>=◌ give
-epistemic_behind inside part known-node = do f ← inside; give (known f)
-epistemic_behind inside part not-known-node = do f ← inside; give (not_known f)
-epistemic_behind inside part all-of-node = do f ← part; g ← part; give (all_of f g)
-epistemic_behind inside part any-of-node = do f ← part; g ← part; give (any_of f g)
+epistemic_behind inside part known_node = do f ← inside; give (known f)
+epistemic_behind inside part not_known_node = do f ← inside; give (not_known f)
+epistemic_behind inside part all_of_node = do f ← part; g ← part; give (all_of f g)
+epistemic_behind inside part any_of_node = do f ← part; g ← part; give (any_of f g)
 
 -- An epistemic formula over n facts, with d levels of depth left. "known and not known count as nodes", so their formula is one deeper.
 unfoldable pub epistemic : (n d : ℕ) → Reader Epistemic
@@ -221,10 +221,10 @@ program_behind n k part acts branches (act_node a) =
       give (record { program = act a rest.program; acts = rest.acts; branches = rest.branches }))
 program_behind n k part acts branches branch_node = do
   f ← epistemic n deepest
-  yes-part ← part acts (branches + 1)
-  no_part ← part yes-part.acts yes-part.branches
+  yes_part ← part acts (branches + 1)
+  no_part ← part yes_part.acts yes_part.branches
   rest ← part no_part.acts no_part.branches
-  give (record { program = branch f yes-part.program no_part.program rest.program; acts = rest.acts; branches = rest.branches })
+  give (record { program = branch f yes_part.program no_part.program rest.program; acts = rest.acts; branches = rest.branches })
 
 -- A program with d levels left. Programs have no depth limit of their own: a level for each node that may come and one for an end are enough
 -- (proofs/FormatLaws.antt, `more_levels`: more levels give the same), so the case of none left never arises.

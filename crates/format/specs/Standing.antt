@@ -4,7 +4,7 @@ use Rattle.std.specs.Prelude.{ℕ, ◌+◌, ◌*◌, ◌≤◌, ◌<◌, ◌≡�
 use mathlib.Core.List.{List, [], ◌∷◌}
 use Rattle.std.proofs.Math.Bool.{true}
 use Rattle.format.specs.Syntax.{Objective, Epistemic, known, not_known, all_of, any_of, Program, end, act, branch, Action, change, probe, Sheet}
-use Rattle.format.specs.Format.{got, known-node, not-known-node, all-of-node, any-of-node, epistemic_node, end_node, act_node, branch_node, program_node, most_bytes, deepest, changes, probes, kind, reply_total, objective, epistemic, is_edition, header, is_padding}
+use Rattle.format.specs.Format.{got, known_node, not_known_node, all_of_node, any_of_node, epistemic_node, end_node, act_node, branch_node, program_node, most_bytes, deepest, changes, probes, kind, reply_total, objective, epistemic, is_edition, header, is_padding}
 
 -- Where the parts of a branch stand behind its tag, from p to q: its condition, which C says is read and F that it stands, its then-program, its else-program and
 -- its rest, one after the other.
@@ -42,10 +42,10 @@ module _ (bytes : List ℕ) (n : ℕ) where
 
   -- An epistemic formula stands from p to q.
   unfoldable pub EpistemicAt : Epistemic → (p q : ℕ) → Type 0
-  EpistemicAt (known f) p q = (r : ℕ) × (epistemic_node bytes p ≡ got known-node r) × ObjectiveAt false f r q
-  EpistemicAt (not_known f) p q = (r : ℕ) × (epistemic_node bytes p ≡ got not-known-node r) × ObjectiveAt false f r q
-  EpistemicAt (all_of f g) p q = (i : ℕ) × (epistemic_node bytes p ≡ got all-of-node i) × (r : ℕ) × EpistemicAt f i r × EpistemicAt g r q
-  EpistemicAt (any_of f g) p q = (i : ℕ) × (epistemic_node bytes p ≡ got any-of-node i) × (r : ℕ) × EpistemicAt f i r × EpistemicAt g r q
+  EpistemicAt (known f) p q = (r : ℕ) × (epistemic_node bytes p ≡ got known_node r) × ObjectiveAt false f r q
+  EpistemicAt (not_known f) p q = (r : ℕ) × (epistemic_node bytes p ≡ got not_known_node r) × ObjectiveAt false f r q
+  EpistemicAt (all_of f g) p q = (i : ℕ) × (epistemic_node bytes p ≡ got all_of_node i) × (r : ℕ) × EpistemicAt f i r × EpistemicAt g r q
+  EpistemicAt (any_of f g) p q = (i : ℕ) × (epistemic_node bytes p ≡ got any_of_node i) × (r : ℕ) × EpistemicAt f i r × EpistemicAt g r q
 
   -- An epistemic formula is read from p to q.
   abbrev pub EpistemicRead : Epistemic → (p q : ℕ) → Type 0

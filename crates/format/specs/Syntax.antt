@@ -4,7 +4,7 @@ use Rattle.std.specs.Prelude.{ℕ, suc, ◌+◌, List, [], length, get_or}
 -- An objective formula. A new fact is the value after a change, and stands in theories only.
 pub data Objective : Type 0 where
   bottom top : Objective
-  fact new-fact : ℕ → Objective
+  fact new_fact : ℕ → Objective
   negation : Objective → Objective
   conjunction disjunction equivalence : Objective → Objective → Objective
 

@@ -2,7 +2,7 @@
 use Rattle.std.specs.Prelude.{ℕ, ◌/◌, ◌%◌, ◌^◌, List, Bool, true, false, not, ◌&&◌, ◌||◌, eqb, ltb, get_or}
 use Rattle.std.specs.Bool.{beq}
 use Rattle.lists.specs.Lists.{up_from, below, keep}
-use Rattle.format.specs.Syntax.{Objective, bottom, top, fact, new-fact, negation, conjunction, disjunction, equivalence, Action, change, probe, Sheet}
+use Rattle.format.specs.Syntax.{Objective, bottom, top, fact, new_fact, negation, conjunction, disjunction, equivalence, Action, change, probe, Sheet}
 
 -- Whether a fact is true in a state.
 unfoldable pub fact_in : (s i : ℕ) → Bool
@@ -14,7 +14,7 @@ unfolding fact_in
 truth bottom s t = false
 truth top s t = true
 truth (fact i) s t = fact_in s i
-truth (new-fact i) s t = fact_in t i
+truth (new_fact i) s t = fact_in t i
 truth (negation f) s t = not (truth f s t)
 truth (conjunction f g) s t = truth f s t && truth g s t
 truth (disjunction f g) s t = truth f s t || truth g s t
@@ -50,7 +50,7 @@ unfoldable pub mentions_new : (theory : Objective) (i : ℕ) → Bool
 mentions_new bottom i = false
 mentions_new top i = false
 mentions_new (fact j) i = false
-mentions_new (new-fact j) i = eqb j i
+mentions_new (new_fact j) i = eqb j i
 mentions_new (negation f) i = mentions_new f i
 mentions_new (conjunction f g) i = mentions_new f i || mentions_new g i
 mentions_new (disjunction f g) i = mentions_new f i || mentions_new g i

@@ -5,7 +5,7 @@ use mathlib.Core.Logic.{◌⊎◌, ⊎_elim}
 use mathlib.Core.List.{List}
 use mathlib.Core.Bool.{false}
 use Rattle.format.specs.Syntax.{known, not_known, all_of, any_of}
-use Rattle.format.specs.Format.{Read, got, fault, mapped, objective, known-node, not-known-node, all-of-node, any-of-node, epistemic_node, epistemic}
+use Rattle.format.specs.Format.{Read, got, fault, mapped, objective, known_node, not_known_node, all_of_node, any_of_node, epistemic_node, epistemic}
 use Rattle.format.proofs.ReaderLaws.{mapped_got, mapped_fault, mapped_twice, epistemic_refused, epistemic_node_law, known_behind, not_known_behind, all_of_behind, any_of_behind, all_of_refused, any_of_refused}
 use Rattle.reader.specs.Method.{ending}
 
@@ -28,14 +28,14 @@ module _ (n d : ℕ) (bytes : List ℕ) (p : ℕ) (some : d ≡ 0 → ⊥) where
 
   module _ {q : ℕ} where
     -- Known and not known end with their objective formula.
-    pub known_ends : epistemic_node bytes p ≡ got known-node q → mapped ending (epistemic n d bytes p) ≡ mapped ending (objective n false (d - 1) bytes q)
+    pub known_ends : epistemic_node bytes p ≡ got known_node q → mapped ending (epistemic n d bytes p) ≡ mapped ending (objective n false (d - 1) bytes q)
     known_ends e = ap (mapped ending) (epistemic_node_law n bytes p d some e ∙ known_behind _ _ bytes q) ∙ ends_mapped known (objective n false (d - 1) bytes q)
 
-    pub not_known_ends : epistemic_node bytes p ≡ got not-known-node q → mapped ending (epistemic n d bytes p) ≡ mapped ending (objective n false (d - 1) bytes q)
+    pub not_known_ends : epistemic_node bytes p ≡ got not_known_node q → mapped ending (epistemic n d bytes p) ≡ mapped ending (objective n false (d - 1) bytes q)
     not_known_ends e = ap (mapped ending) (epistemic_node_law n bytes p d some e ∙ not_known_behind _ _ bytes q) ∙ ends_mapped not_known (objective n false (d - 1) bytes q)
 
     -- And and or are refused with their first part, and end with their second.
-    module _ (e : (epistemic_node bytes p ≡ got all-of-node q) ⊎ (epistemic_node bytes p ≡ got any-of-node q)) where
+    module _ (e : (epistemic_node bytes p ≡ got all_of_node q) ⊎ (epistemic_node bytes p ≡ got any_of_node q)) where
       pub pair_refused : {r : ℕ} → mapped ending (epistemic n (d - 1) bytes q) ≡ fault r → mapped ending (epistemic n d bytes p) ≡ fault r
       unfolding mapped
       pair_refused f =

@@ -12,7 +12,7 @@ use Rattle.states.specs.declared.States.{States}
 use Rattle.states.specs.Sets.{member, set_of}
 use Rattle.states.proofs.SetLaws.{member_set_of, set_cong}
 use Rattle.reader.specs.declared.formula.View.{View}
-use Rattle.format.specs.Syntax.{Objective, fact, new-fact, negation, conjunction, disjunction, equivalence}
+use Rattle.format.specs.Syntax.{Objective, fact, new_fact, negation, conjunction, disjunction, equivalence}
 use Rattle.format.specs.Truth.{truth}
 use Rattle.format.specs.Format.{Read, got, fault, Reader, ◌>>=◌, mapped, give, refuse, check, most_bytes, deepest, fact_number, objective_behind, objective, of_sheet}
 use Rattle.reader.specs.Answers.{in_theory, states_in}
@@ -60,7 +60,7 @@ module _ (from to : ℕ → ℕ) where
     -- A new fact, in a theory.
     pub set_new : (tag : ℕ) → tag ≡ 3 → theory ≡ true → behind tag ≡ mapped (λ i. true_at (fact_of true i)) (fact_number n bytes q)
     unfolding objective_behind check fact_of
-    set_new tag e h = rw (e, h) (mapped_give true_at (fact_number n) new-fact bytes q)
+    set_new tag e h = rw (e, h) (mapped_give true_at (fact_number n) new_fact bytes q)
 
     -- A new fact outside a theory is refused.
     pub set_outside : (tag : ℕ) → tag ≡ 3 → theory ≡ false → behind tag ≡ fault 7

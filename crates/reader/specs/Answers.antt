@@ -4,7 +4,7 @@ use Rattle.states.specs.declared.States.{States}
 use Rattle.states.specs.Sets.{set_of}
 use Rattle.format.specs.Syntax.{Objective}
 use Rattle.format.specs.Truth.{in_space, truth}
-use Rattle.format.specs.Format.{Answer, gives, refused, on_accepted, Read, got, fault, Header, Kind, changes, probes, EpistemicNode, known-node, not-known-node, all-of-node, any-of-node, ProgramNode, end_node, act_node, branch_node}
+use Rattle.format.specs.Format.{Answer, gives, refused, on_accepted, Read, got, fault, Header, Kind, changes, probes, EpistemicNode, known_node, not_known_node, all_of_node, any_of_node, ProgramNode, end_node, act_node, branch_node}
 use Rattle.reader.specs.declared.refusal.Refusal.{Refusal}
 use Rattle.reader.specs.declared.formula.View.{View}
 use Rattle.reader.specs.declared.formula.Evaluated.{Evaluated}
@@ -89,10 +89,10 @@ total_read (ReplyTotal.Refused r) = fault (number_of r)
 
 unfoldable pub epistemic_node_read : EpistemicFound → Read EpistemicNode
 unfolding number_of
-epistemic_node_read (EpistemicFound.Known p) = got known-node p
-epistemic_node_read (EpistemicFound.NotKnown p) = got not-known-node p
-epistemic_node_read (EpistemicFound.AllOf p) = got all-of-node p
-epistemic_node_read (EpistemicFound.AnyOf p) = got any-of-node p
+epistemic_node_read (EpistemicFound.Known p) = got known_node p
+epistemic_node_read (EpistemicFound.NotKnown p) = got not_known_node p
+epistemic_node_read (EpistemicFound.AllOf p) = got all_of_node p
+epistemic_node_read (EpistemicFound.AnyOf p) = got any_of_node p
 epistemic_node_read (EpistemicFound.Refused r) = fault (number_of r)
 
 unfoldable pub program_node_read : ProgramFound → Read ProgramNode

@@ -3,7 +3,7 @@ use Rattle.std.specs.Prelude.{ℕ, List, Bool, true, false}
 use Rattle.lists.specs.Lists.{exists}
 use Rattle.states.specs.declared.States.{States}
 use Rattle.states.specs.Sets.{set_of}
-use Rattle.format.specs.Syntax.{Objective, fact, new-fact, Sheet}
+use Rattle.format.specs.Syntax.{Objective, fact, new_fact, Sheet}
 use Rattle.format.specs.Truth.{holds}
 use Rattle.format.specs.Format.{Answer, gives, refused, Read, got, fault, ProgramRead, Header, decided}
 use Rattle.reader.specs.Answers.{number_of, states_in}
@@ -60,5 +60,5 @@ some_holds fs = set_of (λ s. exists (λ f. holds f s) fs)
 
 -- A fact or, where it is fresh, a new fact.
 unfoldable pub fact_of : (fresh : Bool) (i : ℕ) → Objective
-fact_of true i = new-fact i
+fact_of true i = new_fact i
 fact_of false i = fact i

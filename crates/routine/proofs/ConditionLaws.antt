@@ -6,7 +6,7 @@ use mathlib.Core.Bool.{Bool, true, false}
 use native.Mathlib.Omega.{arith}
 use lib.ListN.{length}
 use Rattle.format.specs.Syntax.{Objective, Epistemic, known, not_known, all_of, any_of}
-use Rattle.format.specs.Format.{Read, got, fault, objective, EpistemicNode, known-node, not-known-node, all-of-node, any-of-node, epistemic_node, epistemic_behind, epistemic, of_sheet, most_bytes, deepest}
+use Rattle.format.specs.Format.{Read, got, fault, objective, EpistemicNode, known_node, not_known_node, all_of_node, any_of_node, epistemic_node, epistemic_behind, epistemic, of_sheet, most_bytes, deepest}
 use Rattle.format.proofs.ReaderLaws.{sheet_short, Pair, epistemic_split, known_split, not_known_split, all_of_split, any_of_split}
 use Rattle.format.specs.Standing.{ObjectiveAt}
 use Rattle.format.proofs.FormulaLaws.{objective_levels}
@@ -36,22 +36,22 @@ module _ (bytes : List ℕ) (n left : ℕ) where
 
   -- The parts of a formula that ends at q, by what its first node is.
   abbrev pub Parts : Read EpistemicNode → (f : Epistemic) (q : ℕ) → Type 0
-  Parts (got known-node p) f q = AtomAt known f p q
-  Parts (got not-known-node p) f q = AtomAt not_known f p q
-  Parts (got all-of-node p) f q = PairAt all_of f p q
-  Parts (got any-of-node p) f q = PairAt any_of f p q
+  Parts (got known_node p) f q = AtomAt known f p q
+  Parts (got not_known_node p) f q = AtomAt not_known f p q
+  Parts (got all_of_node p) f q = PairAt all_of f p q
+  Parts (got any_of_node p) f q = PairAt any_of f p q
   Parts (fault r) f q = ⊥
 
 module _ (bytes : List ℕ) (n : ℕ) where
   -- A formula behind its first node.
   parts_behind : (left : ℕ) → left ≤ deepest → 1 ≤ left → (r : ℕ) (f : Epistemic) (q : ℕ) (h : EpistemicNode)
       → epistemic_behind (objective n false (left - 1)) (epistemic n (left - 1)) h bytes r ≡ got f q → Parts bytes n left (got h r) f q
-  parts_behind left l some r f q known-node e = let w = known_split _ _ bytes r f q e in record { inner = w.0; is = sym w.2; stands = objective_levels n false (left - 1) deepest (omega arith) bytes r w.0 q w.1 }
-  parts_behind left l some r f q not-known-node e = let w = not_known_split _ _ bytes r f q e in record { inner = w.0; is = sym w.2; stands = objective_levels n false (left - 1) deepest (omega arith) bytes r w.0 q w.1 }
-  parts_behind left l some r f q all-of-node e =
+  parts_behind left l some r f q known_node e = let w = known_split _ _ bytes r f q e in record { inner = w.0; is = sym w.2; stands = objective_levels n false (left - 1) deepest (omega arith) bytes r w.0 q w.1 }
+  parts_behind left l some r f q not_known_node e = let w = not_known_split _ _ bytes r f q e in record { inner = w.0; is = sym w.2; stands = objective_levels n false (left - 1) deepest (omega arith) bytes r w.0 q w.1 }
+  parts_behind left l some r f q all_of_node e =
       let w = all_of_split _ _ bytes r f q e in
       record { parts = w; many = unfold formula_size in (ap formula_size (sym w.is)); sets_many = unfold atoms in (ap atoms (sym w.is)); some = some }
-  parts_behind left l some r f q any-of-node e =
+  parts_behind left l some r f q any_of_node e =
       let w = any_of_split _ _ bytes r f q e in
       record { parts = w; many = unfold formula_size in (ap formula_size (sym w.is)); sets_many = unfold atoms in (ap atoms (sym w.is)); some = some }
 

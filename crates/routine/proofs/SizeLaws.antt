@@ -6,7 +6,7 @@ use mathlib.Core.Bool.{false}
 use native.Mathlib.Omega.{arith}
 use lib.ListN.{length, length-append}
 use Rattle.format.specs.Syntax.{Epistemic, known, not_known, all_of, any_of, Program, end, act, branch, action_nodes}
-use Rattle.format.specs.Format.{deepest, known-node, not-known-node, all-of-node, any-of-node, end_node, act_node, branch_node}
+use Rattle.format.specs.Format.{deepest, known_node, not_known_node, all_of_node, any_of_node, end_node, act_node, branch_node}
 use Rattle.format.proofs.StandingLaws.{epistemic_node_inside, program_node_inside}
 use Rattle.format.specs.Standing.{EpistemicAt, ProgramAt}
 use Rattle.format.proofs.FormulaLaws.{objective_onward}
@@ -87,20 +87,20 @@ module _ (bytes : List ℕ) (n : ℕ) where
   pub formula_bits : (f : Epistemic) (p q : ℕ) → EpistemicAt bytes n f p q → (p + 5 * atoms f ≤ q) × (p + 2 * formula_size f ≤ q)
   unfolding EpistemicAt atoms formula_size
   formula_bits (known f) p q s =
-      let i = (epistemic_node_inside bytes p).found known-node s.0 s.1 in
+      let i = (epistemic_node_inside bytes p).found known_node s.0 s.1 in
       let h = (objective_onward n false deepest bytes s.0).found f q s.2 in
       (omega (arith, i.0, h.0), omega (arith, i.0, h.0))
   formula_bits (not_known f) p q s =
-      let i = (epistemic_node_inside bytes p).found not-known-node s.0 s.1 in
+      let i = (epistemic_node_inside bytes p).found not_known_node s.0 s.1 in
       let h = (objective_onward n false deepest bytes s.0).found f q s.2 in
       (omega (arith, i.0, h.0), omega (arith, i.0, h.0))
   formula_bits (all_of f g) p q s =
-      let i = (epistemic_node_inside bytes p).found all-of-node s.0 s.1 in
+      let i = (epistemic_node_inside bytes p).found all_of_node s.0 s.1 in
       let a = formula_bits f s.0 s.2 s.3 in
       let b = formula_bits g s.2 q s.4 in
       (omega (arith, i.0, a.0, b.0), omega (arith, i.0, a.1, b.1))
   formula_bits (any_of f g) p q s =
-      let i = (epistemic_node_inside bytes p).found any-of-node s.0 s.1 in
+      let i = (epistemic_node_inside bytes p).found any_of_node s.0 s.1 in
       let a = formula_bits f s.0 s.2 s.3 in
       let b = formula_bits g s.2 q s.4 in
       (omega (arith, i.0, a.0, b.0), omega (arith, i.0, a.1, b.1))

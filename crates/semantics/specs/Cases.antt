@@ -2,7 +2,7 @@
 -- every row.
 use Rattle.std.specs.Prelude.{ℕ, ◌-◌, List, [], ◌∷◌, ◌++◌, map, ◌≡◌, refl, true, false, length, replicate}
 use Rattle.lists.specs.Lists.{up_from, below}
-use Rattle.format.specs.Syntax.{Objective, bottom, top, fact, new-fact, negation, conjunction, disjunction, equivalence, Epistemic, known, not_known, any_of, Program, end, act, branch, Action, change, probe, Sheet}
+use Rattle.format.specs.Syntax.{Objective, bottom, top, fact, new_fact, negation, conjunction, disjunction, equivalence, Epistemic, known, not_known, any_of, Program, end, act, branch, Action, change, probe, Sheet}
 use Rattle.format.specs.Format.{Answer, gives, refused, reading}
 use Rattle.semantics.specs.Verdict.{Verdict, valid, invalid, stopped, outcome, longest_trace, verified}
 use Rattle.semantics.specs.Replies.{to_do, at_end, told, reported}
@@ -66,7 +66,7 @@ example goal =
     record {
       facts = 2;
       constraint = top;
-      actions = test (equivalence x1 x2) ∷ test (conjunction x1 x2) ∷ change (conjunction (equivalence (new-fact 0) (negation x1)) (equivalence (new-fact 1) x2)) ∷ [];
+      actions = test (equivalence x1 x2) ∷ test (conjunction x1 x2) ∷ change (conjunction (equivalence (new_fact 0) (negation x1)) (equivalence (new_fact 1) x2)) ∷ [];
       start = top;
       goal = goal;
       program = act 0 (branch (known (equivalence x1 x2)) (act 1 end) (act 2 (act 1 end)) end);
@@ -123,9 +123,9 @@ small facts actions start goal program = record { facts = facts; constraint = to
 abbrev pub Readings : Type 0
 Readings =
     -- The else-program is taken though neither the condition nor its negation is known.
-    (outcome (small 1 (change (new-fact 0) ∷ []) top (known (fact 0)) (branch (known (fact 0)) end (act 0 end) end)) 9 ≡ record { verdict = valid 1; shown = [] })
+    (outcome (small 1 (change (new_fact 0) ∷ []) top (known (fact 0)) (branch (known (fact 0)) end (act 0 end) end)) 9 ≡ record { verdict = valid 1; shown = [] })
     -- An unmentioned new fact is free.
-    × (outcome (small 2 (change (new-fact 0) ∷ []) (negation (disjunction (fact 0) (fact 1))) (known (negation (fact 1))) (act 0 end)) 9
+    × (outcome (small 2 (change (new_fact 0) ∷ []) (negation (disjunction (fact 0) (fact 1))) (known (negation (fact 1))) (act 0 end)) 9
     ≡ record { verdict = invalid 1 1; shown = 0 ∷ 0 ∷ 1 ∷ [] })
     -- "known (a or b)" needs neither a nor b known.
     × (outcome (small 1 [] top (known (disjunction (fact 0) (negation (fact 0)))) end) 9 ≡ record { verdict = valid 0; shown = [] })
@@ -142,7 +142,7 @@ readings_hold = (refl, refl, refl, refl, refl)
 -- `11 14 8A 0E C0 22 08 21 01 08 00`: invalid, count 2, L 2 by either.
 abbrev pub overlapping : Sheet
 overlapping =
-    small 1 (probe (top ∷ fact 0 ∷ []) ∷ change (equivalence (new-fact 0) bottom) ∷ []) top (known (fact 0)) (act 0 (branch (known (fact 0)) end (act 1 end) end))
+    small 1 (probe (top ∷ fact 0 ∷ []) ∷ change (equivalence (new_fact 0) bottom) ∷ []) top (known (fact 0)) (act 0 (branch (known (fact 0)) end (act 1 end) end))
 
 pub overlapping_says : reading (0x11 ∷ 0x14 ∷ 0x8A ∷ 0x0E ∷ 0xC0 ∷ 0x22 ∷ 0x08 ∷ 0x21 ∷ 0x01 ∷ 0x08 ∷ 0x00 ∷ []) ≡ gives overlapping
 unfolding reading

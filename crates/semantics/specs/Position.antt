@@ -19,7 +19,7 @@ node_actions (act a rest) = a ∷ node_actions rest
 node_actions (branch f p q rest) = node_actions p ++ (node_actions q ++ node_actions rest)
 
 -- "The number of the next action node, counted from 0 in reading order": that at which a program stands after history h and then the replies rs, its own first action node
--- being number c. `onward` tells it where the program ends before that. Branches go as in `policy`. (PositionLaws: `position-next`, `position-end`.)
+-- being number c. `onward` tells it where the program ends before that. Branches go as in `policy`. (PositionLaws: `position_next`, `position_end`.)
 unfoldable pub next_node : Sheet → Program → (c : ℕ) → (onward : History → List ℕ → ℕ) → History → (rs : List ℕ) → ℕ
 unfolding holds_after if◌then◌else◌ action_nodes
 next_node sheet end c onward h rs = onward h rs

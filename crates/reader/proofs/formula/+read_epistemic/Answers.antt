@@ -3,7 +3,7 @@ use borrow.Author.Rules.{rules}
 use mathlib.Core.Path.{◌≡◌, sym, ap, ◌∙◌}
 use mathlib.Core.Logic.{◌⊎◌, ⊎_elim, inl, inr}
 use Prim.Native.Nat.{ℕ, ◌<◌}
-use Rattle.format.specs.Format.{got, mapped, all-of-node, any-of-node, epistemic_node}
+use Rattle.format.specs.Format.{got, mapped, all_of_node, any_of_node, epistemic_node}
 use Rattle.format.proofs.ReaderLaws.{epistemic_none}
 use Rattle.reader.specs.Answers.{number_of, epistemic_node_read, in_theory}
 use Rattle.reader.specs.Method.{end_read, ending}
@@ -34,17 +34,17 @@ returns-in-NotKnown t c = let a = c.args in
 pub returns-in-Refused-read_epistemic : goal.returns-in-Refused-read_epistemic
 unfolding end_read epistemic_node_read
 returns-in-Refused-read_epistemic t c = let a = c.args in
-    let pair : (epistemic_node a.bytes.now a.at ≡ got all-of-node c.match-epistemic_at.next) ⊎ (epistemic_node a.bytes.now a.at ≡ got any-of-node c.match-epistemic_at.next) = elim c.match-epistemic_at.branch [
-      | in-AllOf w ↦ inl (sym c.epistemic_at.ensures ∙ ap epistemic_node_read w.in-AllOf.is ∙ ap (got all-of-node) (sym w.next-is))
-      | in-AnyOf w ↦ inr (sym c.epistemic_at.ensures ∙ ap epistemic_node_read w.in-AnyOf.is ∙ ap (got any-of-node) (sym w.next-is))
+    let pair : (epistemic_node a.bytes.now a.at ≡ got all_of_node c.match-epistemic_at.next) ⊎ (epistemic_node a.bytes.now a.at ≡ got any_of_node c.match-epistemic_at.next) = elim c.match-epistemic_at.branch [
+      | in-AllOf w ↦ inl (sym c.epistemic_at.ensures ∙ ap epistemic_node_read w.in-AllOf.is ∙ ap (got all_of_node) (sym w.next-is))
+      | in-AnyOf w ↦ inr (sym c.epistemic_at.ensures ∙ ap epistemic_node_read w.in-AnyOf.is ∙ ap (got any_of_node) (sym w.next-is))
     ] in
     sym (pair_refused a.n a.left a.bytes.now a.at c.if-left-eq0.false pair (sym c.read_epistemic.ensures ∙ ap end_read c.in-Refused-read_epistemic.is))
 
 pub returns-in-To : goal.returns-in-To
 unfolding end_read epistemic_node_read
 returns-in-To t c = let a = c.args in
-    let pair : (epistemic_node a.bytes.now a.at ≡ got all-of-node c.match-epistemic_at.next) ⊎ (epistemic_node a.bytes.now a.at ≡ got any-of-node c.match-epistemic_at.next) = elim c.match-epistemic_at.branch [
-      | in-AllOf w ↦ inl (sym c.epistemic_at.ensures ∙ ap epistemic_node_read w.in-AllOf.is ∙ ap (got all-of-node) (sym w.next-is))
-      | in-AnyOf w ↦ inr (sym c.epistemic_at.ensures ∙ ap epistemic_node_read w.in-AnyOf.is ∙ ap (got any-of-node) (sym w.next-is))
+    let pair : (epistemic_node a.bytes.now a.at ≡ got all_of_node c.match-epistemic_at.next) ⊎ (epistemic_node a.bytes.now a.at ≡ got any_of_node c.match-epistemic_at.next) = elim c.match-epistemic_at.branch [
+      | in-AllOf w ↦ inl (sym c.epistemic_at.ensures ∙ ap epistemic_node_read w.in-AllOf.is ∙ ap (got all_of_node) (sym w.next-is))
+      | in-AnyOf w ↦ inr (sym c.epistemic_at.ensures ∙ ap epistemic_node_read w.in-AnyOf.is ∙ ap (got any_of_node) (sym w.next-is))
     ] in
     c.read_epistemic-in-To.ensures ∙ sym (pair_ends a.n a.left a.bytes.now a.at c.if-left-eq0.false pair (sym c.read_epistemic.ensures ∙ ap end_read c.in-To.is))

@@ -3,7 +3,7 @@ use borrow.Author.Rules.{rules}
 use mathlib.Core.Path.{◌≡◌, sym, ap, ◌∙◌}
 use mathlib.Core.Logic.{◌⊎◌, ⊎_elim, inl, inr}
 use Prim.Native.Nat.{ℕ, ◌<◌}
-use Rattle.format.specs.Format.{got, mapped, all-of-node, any-of-node, epistemic_node}
+use Rattle.format.specs.Format.{got, mapped, all_of_node, any_of_node, epistemic_node}
 use Rattle.format.proofs.ReaderLaws.{epistemic_none}
 use Rattle.reader.specs.Answers.{number_of, epistemic_node_read, in_theory}
 use Rattle.reader.specs.Method.{end_read, ending}
