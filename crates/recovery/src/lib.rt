@@ -421,7 +421,7 @@ pub extern "C" fn recovery_report_in(
 }
 
 // The numbers of a stream's state: its figures, the lengths that are read with their sheets, and the bytes that are begun.
-const STATE: usize = Figures::NUMBERS + 2;
+pub const STATE: usize = Figures::NUMBERS + 2;
 
 // A number of bytes. (What is read from lent memory has its bound here, as a parameter.)
 fn byte_count(n: u64) -> usize
