@@ -18,42 +18,38 @@ const LINES: usize = 20;
 
 const CLAIMS: &str = "\
 -- The forms of the claims on generated sheets.
-use Prim.Native.Nat.{ℕ}
-use mathlib.Core.List.{List, []}
-use mathlib.Core.Path.{_≡_}
-use Rattle·format.specs.Syntax.{Sheet}
-use Rattle·format.specs.Format.{Answer, gives, refused, onAccepted, reading}
-use Rattle·semantics.specs.Verdict.{Verdict, Verified, verified}
-use Rattle·semantics.specs.Replies.{Told, told, reported}
-use Rattle·semantics.specs.Cases.{memoryWith}
+use Rattle.std.specs.Prelude.{ℕ, List, [], ◌≡◌}
+use Rattle.format.specs.Syntax.{Sheet}
+use Rattle.format.specs.Format.{Answer, gives, refused, on_accepted, reading}
+use Rattle.semantics.specs.Verdict.{Verdict, Verified, verified}
+use Rattle.semantics.specs.Replies.{Told, told, reported}
+use Rattle.semantics.specs.Cases.{memory_with}
 
 abbrev pub Verifies : (bytes : List ℕ) (budget : ℕ) → Answer Verdict → (shown : List ℕ) → Type 0
-Verifies bytes budget answer shown = verified bytes budget (memoryWith []) ≡ record { answer = answer; memory = memoryWith shown }
+Verifies bytes budget answer shown = verified bytes budget (memory_with []) ≡ record { answer = answer; memory = memory_with shown }
 
 abbrev pub Talks : (bytes rs : List ℕ) (r : ℕ) → Told → Answer (List ℕ) → Type 0
 Talks bytes rs r t a =
-    (onAccepted (λ sheet. gives (told sheet rs)) (reading bytes) ≡ gives t) × (onAccepted (λ sheet. reported sheet rs r) (reading bytes) ≡ a)
+    (on_accepted (λ sheet. gives (told sheet rs)) (reading bytes) ≡ gives t) × (on_accepted (λ sheet. reported sheet rs r) (reading bytes) ≡ a)
 
 -- The number of a refusal, 0 for an accepted sheet.
-unfoldable pub refusalOf : Answer Sheet → ℕ
-refusalOf (refused r) = r
-refusalOf (gives sheet) = 0
+unfoldable pub refusal_of : Answer Sheet → ℕ
+refusal_of (refused r) = r
+refusal_of (gives sheet) = 0
 ";
 
 const HEAD: &str = "\
 -- Claims on generated sheets.
-use Prim.Native.Nat.{ℕ}
-use mathlib.Core.List.{List, [], _∷_}
-use mathlib.Core.Path.{_≡_, refl}
-use mathlib.Core.Bool.{true, false}
-use Rattle·format.specs.Format.{gives, refused, onAccepted, mostBytes, mostActs, reading}
-use Rattle·semantics.specs.Verdict.{valid, invalid, stopped, verified}
-use Rattle·semantics.specs.Replies.{to-do, at-end, told, reported}
-use Rattle·semantics.specs.Checker.{checked}
-use Rattle·semantics.specs.Printing.{printed}
-use Rattle·semantics.specs.Figures.{figuresLine}
-use Rattle·runner.specs.Records.{padded, nextOn, reportOn, recordAfter}
-use Rattle·compared·specs.specs.Claims.{Verifies, Talks, refusalOf}
+use Rattle.std.specs.Prelude.{ℕ, List, [], ◌∷◌, ◌≡◌, true, false}
+use mathlib.Core.Path.{refl}
+use Rattle.format.specs.Format.{gives, refused, on_accepted, most_bytes, most_acts, reading}
+use Rattle.semantics.specs.Verdict.{valid, invalid, stopped, verified}
+use Rattle.semantics.specs.Replies.{to_do, at_end, told, reported}
+use Rattle.semantics.specs.Checker.{checked}
+use Rattle.semantics.specs.Printing.{printed}
+use Rattle.semantics.specs.Figures.{figures_line}
+use Rattle.runner.specs.Records.{padded, next_on, report_on, record_after}
+use Rattle.compared.specs.Claims.{Verifies, Talks, refusal_of}
 ";
 
 fn main() -> io::Result<()> {
@@ -63,7 +59,7 @@ fn main() -> io::Result<()> {
     fs::create_dir_all(dir.join("specs"))?;
     fs::write(
         dir.join("src/lib.rt"),
-        "// No code: claims on generated sheets.\n",
+        "// No code: claims on generated sheets.\n#![tactic(auto)]\n",
     )?;
     fs::write(dir.join("specs/Claims.antt"), CLAIMS)?;
 
@@ -108,9 +104,9 @@ impl Module {
         let fields: Vec<&str> = row.split(';').collect();
         match fields[..] {
             [sheet, refusal] => {
-                let statement = format!("refusalOf (reading {}) ≡ {refusal}", byte_list(sheet));
-                let name = format!("reads-{number}");
-                self.claim(name, statement, "reading refusalOf", "refl");
+                let statement = format!("refusal_of (reading {}) ≡ {refusal}", byte_list(sheet));
+                let name = format!("reads_{number}");
+                self.claim(name, statement, "reading refusal_of", "refl");
             }
             [sheet, budget, answer, trace, talks, checks] => {
                 let sheet = byte_list(sheet);
@@ -129,11 +125,11 @@ impl Module {
             }
             ["stream", stream, line] => {
                 let line = numbers(format!("{line}\n").bytes());
-                let statement = format!("figuresLine {} ≡ {line}", byte_list(stream));
+                let statement = format!("figures_line {} ≡ {line}", byte_list(stream));
                 self.claim(
-                    format!("figures-{number}"),
+                    format!("figures_{number}"),
                     statement,
-                    "figuresLine",
+                    "figures_line",
                     "refl",
                 );
             }
@@ -147,11 +143,11 @@ impl Module {
             verdict(answer),
             byte_list(trace)
         );
-        self.claim(format!("verdict-{number}"), statement, "verified", "refl");
+        self.claim(format!("verdict_{number}"), statement, "verified", "refl");
         if budget == "1000000" {
             let lines = numbers(printed(answer, trace).bytes());
             let statement = format!("printed {sheet} ≡ {lines}");
-            self.claim(format!("lines-{number}"), statement, "printed", "refl");
+            self.claim(format!("lines_{number}"), statement, "printed", "refl");
         }
     }
 
@@ -172,9 +168,9 @@ impl Module {
                 refusal => format!("(refused {refusal})"),
             };
             self.claim(
-                format!("talk-{number}-{index}"),
+                format!("talk_{number}_{index}"),
                 format!("Talks {sheet} {before} {reply} {told} {report}"),
-                "onAccepted told reported reading",
+                "on_accepted told reported reading",
                 "(refl, refl)",
             );
         }
@@ -189,7 +185,7 @@ impl Module {
                 refusal => format!("refused {refusal}"),
             };
             self.claim(
-                format!("check-{number}-{index}"),
+                format!("check_{number}_{index}"),
                 format!("checked {sheet} {} ≡ {said}", byte_list(trace)),
                 "checked",
                 "refl",
@@ -204,9 +200,9 @@ impl Module {
             Err(_) => format!("gives {}", telling(told)),
         };
         self.claim(
-            format!("next-{number}"),
-            format!("nextOn {before} ≡ {told}"),
-            "nextOn padded",
+            format!("next_{number}"),
+            format!("next_on {before} ≡ {told}"),
+            "next_on padded",
             "refl",
         );
         for (index, report) in parts(reports) {
@@ -220,15 +216,15 @@ impl Module {
                 refusal => (format!("refused {refusal}"), before.clone()),
             };
             self.claim(
-                format!("report-{number}-{index}"),
-                format!("reportOn {before} {reply} ≡ {answer}"),
-                "reportOn padded",
+                format!("report_{number}_{index}"),
+                format!("report_on {before} {reply} ≡ {answer}"),
+                "report_on padded",
                 "refl",
             );
             self.claim(
-                format!("after-{number}-{index}"),
-                format!("recordAfter {before} {reply} ≡ {after}"),
-                "recordAfter padded",
+                format!("after_{number}_{index}"),
+                format!("record_after {before} {reply} ≡ {after}"),
+                "record_after padded",
                 "refl",
             );
         }
@@ -259,7 +255,7 @@ impl Record<'_> {
 
     fn text(&self) -> String {
         format!(
-            "(record {{ sheet = padded mostBytes {}; len = {}; replies = padded mostActs {}; count = {} }})",
+            "(record {{ sheet = padded most_bytes {}; len = {}; replies = padded most_acts {}; count = {} }})",
             self.sheet,
             self.length,
             numbers(self.replies.iter().copied()),
@@ -276,9 +272,9 @@ fn parts(list: &str) -> impl Iterator<Item = (usize, &str)> {
 /// What "Next" tells.
 fn telling(told: &str) -> String {
     match told {
-        "e1" => "(at-end true)".to_string(),
-        "e0" => "(at-end false)".to_string(),
-        action => format!("(to-do {})", &action[1..]),
+        "e1" => "(at_end true)".to_string(),
+        "e0" => "(at_end false)".to_string(),
+        action => format!("(to_do {})", &action[1..]),
     }
 }
 
