@@ -1,6 +1,6 @@
 # Writes in C what the Rattle sources say, for tests/header.c: each constant, as CRATE__NAME or CRATE__Type__NAME; the numbers of refusals, of the checker's
-# answers, of the kinds of nodes and of the places in a stream's state, held to the enumerators of their names; the functions of crates/recovery/src/lib.rt, declared again, and the sizes of what stands for an array.
-# Run on all sources, with that file last.
+# answers, of the kinds of nodes and of the places in a stream's state, held to the enumerators of their names; the functions of crates/recovery/src/lib.rt and of
+# crates/recovery_c/src/lib.rt, declared again, and the sizes of what stands for an array. Run on all sources, with these files last.
 
 BEGIN {
     type["u8"] = "uint8_t"; type["u16"] = "uint16_t"; type["u32"] = "uint32_t"; type["u64"] = "uint64_t"; type["usize"] = "size_t"
@@ -83,7 +83,21 @@ FNR == 1 {
     owner = ""
 }
 
-/^use / { name = $2; sub(/;$/, "", name); last = name; sub(/.*::/, "", last); used[last] = name }
+# What a file uses: one name, or several behind one path; over several lines where they are many.
+function uses(text,    path, parts, count, i, last) {
+    gsub(/^use +|;| /, "", text)
+    path = ""
+    if (text ~ /\{/) { path = text; sub(/\{.*/, "", path); sub(/^[^{]*\{/, "", text); sub(/\}$/, "", text) }
+    count = split(text, parts, /,/)
+    for (i = 1; i <= count; i++) {
+        last = parts[i]
+        sub(/.*::/, "", last)
+        if (last != "") used[last] = path parts[i]
+    }
+}
+
+/^use / { using = 1; list = "" }
+using { list = list $0; if (/;$/) { using = 0; uses(list) } }
 /^impl / { owner = $2 "__" }
 /^}/ { owner = "" }
 

@@ -1,4 +1,4 @@
-//! Links the static library that `rt staticlib recovery` writes, and with the feature
+//! Links the static library that `tools/build recovery` writes, and with the feature
 //! `before` the one that `tests/before` writes. `lent_before` is set where that one has
 //! the runner's calls in lent tables.
 
