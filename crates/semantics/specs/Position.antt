@@ -1,4 +1,4 @@
--- What the box knows after a list of replies: the states still possible, and the place in the program's text. Document 02, "The record keeps what the box knows".
+-- What the box knows after a list of replies: the states still possible, and the place in the program's text. Document 02, "The record keeps what the box knows". No promise speaks of it yet. An auditor of the promises needs none of it.
 use Rattle.std.specs.Prelude.{ℕ, ◌+◌, ◌≡◌, refl, List, [], ◌∷◌, ◌++◌, map, Bool, true, false}
 use Rattle.lists.specs.Lists.{if◌then◌else◌}
 use Rattle.format.specs.Syntax.{top, fact, negation, known, Program, end, act, branch, action_nodes, change, probe, Sheet}
