@@ -1,22 +1,13 @@
 -- Laws of what follows a read, and of the line for an input. Assumes nothing.
 use Prim.Native.Nat.{ℕ, zero, suc, ◌≤◌}
 use mathlib.Core.Path.{◌≡◌, refl, sym, ap, ◌∙◌, subst}
-use mathlib.Core.Bool.{Bool, true, false, not}
-use mathlib.Core.Logic.{inl, inr}
-use mathlib.Core.List.{List, [], ◌∷◌, ◌++◌, append-nil}
+use mathlib.Core.Bool.{Bool, false, not}
+use mathlib.Core.List.{List, [], ◌++◌, append-nil}
 use native.Mathlib.Omega.{arith}
-use lib.Dec.{T, ltb→lt}
-use lib.IntN.{ℤ, pos, negsuc, nat_abs}
-use lib.Signed.{lt_z}
 use lib.ListN.{length, take}
-use types.Run.{OneOf}
-use denote.Enum.Declared.{tag_of}
-use mir.Syntax.{w64}
-use mir.Val.{SFits, of_z}
 use borrow.Author.Tests.{not-false}
-use Rattle.libc.specs.Io.{Moved}
-use Rattle.lists.proofs.ListLaws.{not_both}
-use Rattle.lists.proofs.SignedLaws.{held, held_same, held_below}
+use Rattle.std.specs.Prelude.{Result, Ok, Err}
+use Rattle.std.specs.Io.{ReadsAtMost}
 use Rattle.lists.specs.Lists.{write}
 use Rattle.semantics.specs.Printing.{numbers_line, most_lines}
 use Rattle.semantics.specs.Figures as meaning
@@ -31,49 +22,34 @@ use Rattle.planfigures.specs.declared.Ending.{Ending}
 use Rattle.planfigures.specs.declared.Next.{Next}
 use Rattle.planfigures.specs.declared.Input.{Input}
 use Rattle.planfigures.specs.Input.{after_read, brought_by, Within, Followed, Reached, Over, unless_failed, line_of, LineFor}
-use Rattle.planfigures.specs.contracts.Ending.{the_type}
 
 -- The cases of `after_read` as the code tells them apart.
-negative : (z : ℤ) → lt_z z (pos 0) ≡ true → Next.Over Ending.Failed ≡ after_read z
+some : (E : Type 0) (k : ℕ) → (k ≡ 0 → ⊥) → Next.Piece k ≡ after_read {E = E} (Ok k)
 unfolding after_read
-negative (pos n) t = absurd (omega (arith, ltb→lt n 0 (subst T (sym t) tt)))
-negative (negsuc k) t = refl
+some E zero n = absurd (n refl)
+some E (suc k) n = refl
 
-none : (z : ℤ) → lt_z z (pos 0) ≡ false → of_z w64 z ≡ 0 → Next.Over Ending.End ≡ after_read z
-unfolding after_read
-none (pos zero) l e = refl
-none (pos (suc k)) l e = absurd (omega (arith, e))
-none (negsuc k) l e = not_both refl l
+module _ {E : Type 0} (got : Result ℕ E) where
+  pub after_failed : (e : E) → got ≡ Err e → Next.Over Ending.Failed ≡ after_read got
+  unfolding after_read
+  after_failed e g = rw g refl
 
-some : (z : ℤ) → lt_z z (pos 0) ≡ false → (of_z w64 z ≡ 0 → ⊥) → Next.Piece (nat_abs z) ≡ after_read z
-unfolding after_read
-some (pos zero) l n = absurd (n refl)
-some (pos (suc k)) l n = refl
-some (negsuc k) l n = not_both refl l
+  pub after_end : (k : ℕ) → got ≡ Ok k → k ≡ 0 → Next.Over Ending.End ≡ after_read got
+  unfolding after_read
+  after_end k g z = rw g (rw z refl)
 
--- The same of the number that is read back from the bits of a local.
-module _ (z : ℤ) (f : SFits w64 z) where
-  pub after_failed : lt_z (held z) (pos 0) ≡ true → Next.Over Ending.Failed ≡ after_read z
-  after_failed t = negative z (held_below z f true t)
-
-  pub after_end : lt_z (held z) (pos 0) ≡ false → of_z w64 z ≡ 0 → Next.Over Ending.End ≡ after_read z
-  after_end l e = none z (held_below z f false l) e
-
-  pub after_piece : lt_z (held z) (pos 0) ≡ false → (of_z w64 z ≡ 0 → ⊥) → Next.Piece (nat_abs (held z)) ≡ after_read z
-  after_piece l n = ap (λ (y : ℤ). Next.Piece (nat_abs y)) (held_same z f) ∙ some z (held_below z f false l) n
+  pub after_piece : (k : ℕ) → got ≡ Ok k → (k ≡ 0 → ⊥) → Next.Piece k ≡ after_read got
+  after_piece k g n = some E k n ∙ ap after_read (sym g)
 
 -- What follows a read lies within its memory.
-within : (z : ℤ) (room : ℕ) → Moved room z → Within (after_read z) room
+within : {E : Type 0} (got : Result ℕ E) (memory : List ℕ) → ReadsAtMost got memory → Within (after_read got) (length memory)
 unfolding after_read Within
-within (negsuc k) room m = tt
-within (pos zero) room m = tt
-within (pos (suc k)) room m = (omega arith, m)
+within (Err e) memory m = tt
+within (Ok zero) memory m = tt
+within (Ok (suc k)) memory m = (omega arith, m.0)
 
--- So it does where the number is read back from the bits of a local, and the memory keeps its length.
-pub read_within : (x y : Next) (z : ℤ) (old new : ℕ) → SFits w64 z → x ≡ after_read (held z) → Moved old z → new ≡ old → x ≡ y → Within y new
-read_within x y z old new f e m n g =
-    let w = within z new (subst (λ (k : ℕ). Moved k z) (sym n) m) in
-    subst (λ (k : Next). Within k new) (sym (ap after_read (held_same z f)) ∙ sym e ∙ g) w
+pub read_within : {E : Type 0} (x y : Next) (got : Result ℕ E) (memory : List ℕ) → x ≡ after_read got → ReadsAtMost got memory → x ≡ y → Within y (length memory)
+read_within x y got memory e m g = subst (λ (k : Next). Within k (length memory)) (sym e ∙ g) (within got memory m)
 
 pub piece_within : (n room : ℕ) → Within (Next.Piece n) room → n ≤ room
 unfolding Within
@@ -108,14 +84,13 @@ pub line_failed : (i : Input) → i.ending ≡ Ending.Failed → [] ≡ line_of 
 unfolding line_of
 line_failed i e = rw e
 
-read_line : (e : Ending) (line : List ℕ) → OneOf (0 ∷ 1 ∷ []) (tag_of the_type e) → line ≡ unless_failed e line
+read_line : (e : Ending) (line : List ℕ) → (e ≡ Ending.Failed → ⊥) → line ≡ unless_failed e line
 unfolding unless_failed
 read_line Ending.End line k = refl
 read_line Ending.Done line k = refl
-read_line Ending.Failed line (inl e) = absurd (omega (arith, e))
-read_line Ending.Failed line (inr e) = absurd (omega (arith, e))
+read_line Ending.Failed line k = absurd (k refl)
 
-pub line_put : (i : Input) (f : Figures) (numbers out after : List ℕ) (n : ℕ) → OneOf (0 ∷ 1 ∷ []) (tag_of the_type i.ending) → f ≡ ended i.state → numbers ≡ figure_numbers (meant_by f)
+pub line_put : (i : Input) (f : Figures) (numbers out after : List ℕ) (n : ℕ) → (i.ending ≡ Ending.Failed → ⊥) → f ≡ ended i.state → numbers ≡ figure_numbers (meant_by f)
     → (n ≡ length (numbers_line numbers)) × (after ≡ write out 0 (numbers_line numbers)) × (n ≤ most_lines) → length out ≡ most_lines → (take n after ≡ line_of i) × (n ≤ length after)
 unfolding line_of
 line_put i f numbers out after n k e d p l =

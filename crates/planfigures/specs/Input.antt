@@ -1,5 +1,5 @@
 -- What the calls of `read` say of the input, which state they lead to, and what is printed.
-use Rattle.std.specs.Prelude.{ℕ, zero, suc, ◌≤◌, ◌<◌, ◌≡◌, List, [], ◌++◌, true, length, take, get_or, ℤ, pos, negsuc}
+use Rattle.std.specs.Prelude.{ℕ, zero, suc, ◌≤◌, ◌<◌, ◌≡◌, List, [], ◌++◌, true, length, take, get_or, Result, Ok, Err}
 use Rattle.semantics.specs.Printing.{numbers_line}
 use Rattle.semantics.specs.Figures.{figure_numbers, figures_line}
 use Rattle.release.specs.declared.feeding.Release.{Release}
@@ -9,11 +9,11 @@ use Rattle.planfigures.specs.declared.Ending.{Ending}
 use Rattle.planfigures.specs.declared.Next.{Next}
 use Rattle.planfigures.specs.declared.Input.{Input}
 
--- What follows a call of `read`. Only the answer 0 is the end of the input; a negative one is a failure, whatever was read before.
-unfoldable pub after_read : ℤ → Next
-after_read (negsuc k) = Next.Over Ending.Failed
-after_read (pos zero) = Next.Over Ending.End
-after_read (pos (suc k)) = Next.Piece (suc k)
+-- What follows a call of `read`. Only the answer 0 is the end of the input; an error is a failure, whatever was read before.
+unfoldable pub after_read : {E : Type 0} → Result ℕ E → Next
+after_read (Err e) = Next.Over Ending.Failed
+after_read (Ok zero) = Next.Over Ending.End
+after_read (Ok (suc k)) = Next.Piece (suc k)
 
 -- The bytes that it put: so many, from the first of its memory on.
 unfoldable pub brought_by : Next → (memory : List ℕ) → List ℕ

@@ -6,10 +6,11 @@ ghost use Rattle.std.specs.Prelude.{◌≡◌, ◌≤◌, ◌<◌, length, take}
 ghost use Rattle.routine.specs.Memory.{Sized};
 ghost use Rattle.planfigures.specs.Input.{after_read, Followed, Reached, Over, line_of, LineFor};
 
-use libc::{STDERR_FILENO, STDIN_FILENO, STDOUT_FILENO};
 use printing::LINES;
 use release::Release;
 use routine::{HEAD_CELLS, NODE_CELLS, SET_WORDS};
+use std::io;
+use std::io::{Print, Read, Stderr, Stdin, Stdout};
 use verifier::MEMO_WORDS;
 
 // The bytes that one call of `read` asks for.
@@ -52,21 +53,22 @@ struct Line {
 }
 
 // What follows a call of `read` that answered `got`. One that a signal interrupts counts as failed, as in planverify.
-fn after(got: isize) -> Next
+fn after(got: io::Result<usize>) -> Next
     ensures { result ≡ after_read got }
 {
-    if got < 0 {
+    let Ok(put) = got else {
         return Next::Over(Ending::Failed);
-    }
-    if got == 0 {
+    };
+    if put == 0 {
         return Next::Over(Ending::End);
     }
-    Next::Piece(got as usize)
+    Next::Piece(put)
 }
 
 // Reads a piece of standard input into `memory`, as much as comes, and feeds it to the state. (Without room `read` would answer 0,
 // as at the end.)
 fn read_piece(
+    mut stdin: Stdin,
     state: Release,
     memory: &mut [u8],
     heads: &mut [u16; HEAD_CELLS],
@@ -77,7 +79,7 @@ fn read_piece(
     requires { (0 < length memory.old) × Sized heads.old nodes.old sets.old }
     ensures { Followed state result.next memory.new result.state × Sized heads.new nodes.new sets.new }
 {
-    let got = libc::read(STDIN_FILENO, memory);
+    let got = stdin.read(memory);
     let next = after(got);
     match next {
         Next::Piece(n) => {
@@ -96,6 +98,7 @@ fn read_piece(
 
 // Reads standard input piece by piece, to its end or until nothing more is looked at.
 fn read_input(
+    stdin: Stdin,
     memory: &mut [u8],
     heads: &mut [u16; HEAD_CELLS],
     nodes: &mut [u16; NODE_CELLS],
@@ -107,7 +110,7 @@ fn read_input(
 {
     let mut state = Release::start();
     while !state.is_done() {
-        let step = read_piece(state, memory, heads, nodes, sets, memo);
+        let step = read_piece(stdin, state, memory, heads, nodes, sets, memo);
         state = step.state;
         let next = step.next;
         if let Next::Over(ending) = next {
@@ -146,31 +149,41 @@ fn line_for(input: Input) -> Line
 
 // Hands bytes to standard output, and no others than the line of a stream that leads to the input's state: `main` writes there by
 // this alone.
-fn put_line(input: Input, line: &[u8]) -> bool
+fn put_line(stdout: Stdout, input: Input, line: &[u8]) -> bool
     requires { LineFor input line.now }
 {
-    io::write_all(STDOUT_FILENO, line)
+    stdout.write_all(line).is_ok()
 }
 
 // Nothing is left to do where standard error can't be written.
-fn tell(message: &[u8]) {
-    io::write_all(STDERR_FILENO, message);
+fn tell(stderr: Stderr, message: &[u8]) {
+    let _ = stderr.write_all(message);
 }
 
-fn main() {
+fn main(rt: HostRuntime) {
     let mut heads = [0u16; HEAD_CELLS];
     let mut nodes = [0u16; NODE_CELLS];
     let mut sets = [0u64; SET_WORDS];
     let mut memo = [0u64; MEMO_WORDS];
     let mut memory = [0u8; PIECE];
-    let input = read_input(&mut memory, &mut heads, &mut nodes, &mut sets, &mut memo);
+    let input = read_input(
+        rt.stdin(),
+        &mut memory,
+        &mut heads,
+        &mut nodes,
+        &mut sets,
+        &mut memo,
+    );
     let ending = input.ending;
     if let Ending::Failed = ending {
-        tell(b"planfigures: the input could not be read\n");
+        tell(rt.stderr(), b"planfigures: the input could not be read\n");
     }
     let line = line_for(input);
     let bytes = line.bytes;
-    if !put_line(input, &bytes[..line.length]) {
-        tell(b"planfigures: the answer could not be written\n");
+    if !put_line(rt.stdout(), input, &bytes[..line.length]) {
+        tell(
+            rt.stderr(),
+            b"planfigures: the answer could not be written\n",
+        );
     }
 }

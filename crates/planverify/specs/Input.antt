@@ -1,16 +1,16 @@
 -- What the calls of `read` say of the input, and what is printed for it.
-use Rattle.std.specs.Prelude.{ℕ, zero, suc, ◌+◌, ◌≤◌, List, [], take, ltb, ℤ, pos, negsuc}
+use Rattle.std.specs.Prelude.{ℕ, zero, suc, ◌+◌, ◌≤◌, List, [], take, ltb, Result, Ok, Err}
 use Rattle.lists.specs.Lists.{if◌then◌else◌}
 use Rattle.semantics.specs.Printing.{printed}
 use Rattle.planverify.specs.declared.Next.{Next}
 use Rattle.planverify.specs.declared.Input.{Input}
 
--- What follows a call of `read` behind `done` of `most` bytes. Only the answer 0 is the end of the input; a negative one is a failure, whatever was read before.
-unfoldable pub after_read : (done most : ℕ) → ℤ → Next
+-- What follows a call of `read` behind `done` of `most` bytes. Only the answer 0 is the end of the input; an error is a failure, whatever was read before.
+unfoldable pub after_read : {E : Type 0} (done most : ℕ) → Result ℕ E → Next
 unfolding if◌then◌else◌
-after_read done most (negsuc k) = Next.Over Input.Failed
-after_read done most (pos zero) = Next.Over (Input.Read done)
-after_read done most (pos (suc k)) = let n = done + suc k in if ltb n most then Next.More n else Next.Over (Input.Read n)
+after_read done most (Err e) = Next.Over Input.Failed
+after_read done most (Ok zero) = Next.Over (Input.Read done)
+after_read done most (Ok (suc k)) = let n = done + suc k in if ltb n most then Next.More n else Next.Over (Input.Read n)
 
 -- What was read lies within the room.
 unfoldable pub Within : Input → (room : ℕ) → Type 0

@@ -2,15 +2,15 @@
 // Where the input can't be read to its end, or the lines can't be written, it says so on standard error.
 #![tactic(auto)]
 
-ghost use Rattle.std.specs.Prelude.{◌≡◌, ◌≤◌, ◌<◌, ◌-◌, length, take};
-ghost use Rattle.libc.specs.Io.{Moved};
+ghost use Rattle.std.specs.Prelude.{◌≡◌, ◌≤◌, ◌<◌, ◌-◌, IfOk, length, take};
 ghost use Rattle.lists.specs.Lists.{write};
 ghost use Rattle.format.specs.Format.{most_bytes};
 ghost use Rattle.semantics.specs.Printing.{most_lines};
 ghost use Rattle.planverify.specs.Input.{after_read, Within, lines_for};
 
-use libc::{STDERR_FILENO, STDIN_FILENO, STDOUT_FILENO};
 use printing::LINES;
+use std::io;
+use std::io::{Print, Read, Stderr, Stdin, Stdout};
 
 // One byte more than a sheet may have, so that a longer input is refused.
 const MOST: usize = reader::BYTES + 1;
@@ -30,18 +30,18 @@ enum Next {
 }
 
 // What follows a call of `read` for `most - done` bytes behind `done` that answered `got`. One that a signal interrupts counts as
-// failed: the program handles no signal, and telling it apart takes `errno`, which only C code behind further axioms can read.
-fn after(done: usize, most: usize, got: isize) -> Next
-    requires { (done ≤ most) × Moved (most - done) got }
+// failed: the program handles no signal.
+fn after(done: usize, most: usize, got: io::Result<usize>) -> Next
+    requires { (done ≤ most) × IfOk got (λ n. n ≤ most - done) }
     ensures { result ≡ after_read done most got }
 {
-    if got < 0 {
+    let Ok(put) = got else {
         return Next::Over(Input::Failed);
-    }
-    if got == 0 {
+    };
+    if put == 0 {
         return Next::Over(Input::Read(done));
     }
-    let n = done + got as usize;
+    let n = done + put;
     if n < most {
         return Next::More(n);
     }
@@ -49,13 +49,13 @@ fn after(done: usize, most: usize, got: isize) -> Next
 }
 
 // Reads standard input to its end, or until `sheet` is full, which has room for more than a sheet may have.
-fn read_input(sheet: &mut [u8]) -> Input
+fn read_input(mut stdin: Stdin, sheet: &mut [u8]) -> Input
     requires { most_bytes < length sheet.old }
     ensures { Within result (length sheet.new) }
 {
     let mut done = 0;
     loop {
-        let got = libc::read(STDIN_FILENO, &mut sheet[done..]);
+        let got = stdin.read(&mut sheet[done..]);
         let next = after(done, sheet.len(), got);
         match next {
             Next::More(n) => {
@@ -88,11 +88,11 @@ struct Response {
 }
 
 // Reads standard input into `sheet` and makes the lines for it.
-fn respond(sheet: &mut [u8]) -> Response
+fn respond(stdin: Stdin, sheet: &mut [u8]) -> Response
     requires { most_bytes < length sheet.old }
     ensures { (take result.length result.lines ≡ lines_for result.input sheet.new) × (result.length ≤ length result.lines) }
 {
-    let input = read_input(sheet);
+    let input = read_input(stdin, sheet);
     let mut lines = [0u8; LINES];
     let length = lines_for(input, sheet, &mut lines);
     Response {
@@ -103,26 +103,29 @@ fn respond(sheet: &mut [u8]) -> Response
 }
 
 // Hands bytes to standard output, and no others than the lines for the input that stands in `sheet`: `main` writes there by this alone.
-fn put_lines(input: Input, sheet: &[u8], lines: &[u8]) -> bool
+fn put_lines(stdout: Stdout, input: Input, sheet: &[u8], lines: &[u8]) -> bool
     requires { lines.now ≡ lines_for input sheet.now }
 {
-    io::write_all(STDOUT_FILENO, lines)
+    stdout.write_all(lines).is_ok()
 }
 
 // Nothing is left to do where standard error can't be written.
-fn tell(message: &[u8]) {
-    io::write_all(STDERR_FILENO, message);
+fn tell(stderr: Stderr, message: &[u8]) {
+    let _ = stderr.write_all(message);
 }
 
-fn main() {
+fn main(rt: HostRuntime) {
     let mut sheet = [0u8; MOST];
-    let response = respond(&mut sheet);
+    let response = respond(rt.stdin(), &mut sheet);
     let input = response.input;
     let lines = response.lines;
     if let Input::Failed = input {
-        tell(b"planverify: the input could not be read\n");
+        tell(rt.stderr(), b"planverify: the input could not be read\n");
     }
-    if !put_lines(input, &sheet, &lines[..response.length]) {
-        tell(b"planverify: the answer could not be written\n");
+    if !put_lines(rt.stdout(), input, &sheet, &lines[..response.length]) {
+        tell(
+            rt.stderr(),
+            b"planverify: the answer could not be written\n",
+        );
     }
 }

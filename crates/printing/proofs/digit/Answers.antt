@@ -1,5 +1,4 @@
 -- `printing::digit` meets its contract. Assumes nothing.
-use borrow.Author.Rules.{rules}
 use Rattle.printing.proofs.LineLaws.{digit_low, digit_high}
 use Rattle.printing.proofs.digit.Goals as goal
 

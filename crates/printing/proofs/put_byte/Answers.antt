@@ -1,5 +1,4 @@
 -- `printing::put_byte` meets its contract: the two stores are the writing of the two digits. Assumes nothing.
-use borrow.Author.Rules.{rules}
 use Rattle.printing.proofs.LineLaws.{put_digits}
 use Rattle.printing.proofs.put_byte.Goals as goal
 

@@ -1,5 +1,4 @@
 -- `printing::put_line` meets its contract. Assumes nothing.
-use borrow.Author.Rules.{rules}
 use native.Mathlib.Omega.{arith}
 use Rattle.printing.proofs.LineLaws.{put_ended}
 use Rattle.printing.proofs.put_line.Goals as goal

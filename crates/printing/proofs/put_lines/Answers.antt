@@ -1,5 +1,4 @@
 -- `printing::put_lines` meets its contract: one line of each verdict but "invalid". Assumes nothing.
-use borrow.Author.Rules.{rules}
 use native.Mathlib.Omega.{arith}
 use Rattle.semantics.specs.Printing.{printed_for}
 use Rattle.verifier.specs.Answers.{answer_of}
@@ -8,8 +7,8 @@ use Rattle.printing.proofs.LineLaws.{put_verdict, put_short, put_refused, printa
 use Rattle.printing.proofs.put_lines.Goals as goal
 
 pub put_invalid-requires : goal.put_invalid-requires
-put_invalid-requires c = let d = c in
-    (printable_invalid _ _ _ c.in-Invalid.is d.requires.0, d.requires.1)
+put_invalid-requires c =
+    (printable_invalid _ _ _ c.in-Invalid.is c.requires.0, c.requires.1)
 
 pub returns-in-Valid : goal.returns-in-Valid
 unfolding behind_word printed_for answer_of
@@ -24,7 +23,8 @@ unfolding behind_word printed_for answer_of
 returns-in-Stopped c = put_verdict _ _ _ _ _ _ c.in-Stopped.is c.put_line-in-Stopped.ensures.0 (omega (arith, c.put_line-in-Stopped.ensures.1))
 
 pub returns-in-ShortMemory : goal.returns-in-ShortMemory
-returns-in-ShortMemory c = let e = c.in-ShortMemory.is in
+returns-in-ShortMemory c =
+    let e = c.in-ShortMemory.is in
     put_verdict _ _ _ _ _ _ e (put_short _ _ _ _ _ _ e c.number.ensures c.put_line-in-ShortMemory.ensures.0) (omega (arith, c.put_line-in-ShortMemory.ensures.1))
 
 pub returns-in-Refused : goal.returns-in-Refused

@@ -4,9 +4,9 @@ use Rattle.printing.proofs.LineLaws.{decimal_most_wide}
 use Rattle.printing.proofs.put_number.Goals as goal
 
 pub put_decimal-requires : goal.put_decimal-requires
-put_decimal-requires c = let d = c in omega (arith, d.requires, decimal_most_wide d.args.n d.ranges.n.fits)
+put_decimal-requires c = let d = c in omega (arith, c.requires, decimal_most_wide c.args.n c.ranges.n.fits)
 
 pub returns : goal.returns
-returns c = let d = c in
+returns c =
     let p = c.put_decimal.ensures in
-    (p, omega (arith, p.place, decimal_most_wide d.args.n d.ranges.n.fits))
+    (p, omega (arith, p.place, decimal_most_wide c.args.n c.ranges.n.fits))

@@ -1,6 +1,5 @@
 -- `printing::put_trace` meets its contract. The loop's invariant: wherever the first byte was put, the first i bytes are. The measure is the bytes that are left. Assumes nothing.
-use Prim.Native.Nat.{ℕ, ◌+◌, ◌-◌, ◌*◌, ◌≤◌, ◌<◌}
-use mathlib.Core.List.{List}
+use Prim.Native.Nat.{ℕ}
 use mathlib.Core.Path.{◌≡◌, subst}
 use native.Mathlib.Omega.{arith}
 use lib.ListN.{take}
@@ -37,19 +36,19 @@ pub overflow_step-i : goal.overflow_step-i
 overflow_step-i c = omega (arith, c.requires.2)
 
 pub loop-i-preserved : goal.loop-i-preserved
-loop-i-preserved c = let d = c in
+loop-i-preserved c =
     let l = c.loop-i in (
       omega arith,
       omega arith,
       omega arith,
-      λ m h. trace_next _ m _ _ _ _ _ l.invariant.0 (omega (arith, d.requires.2, d.requires.3)) (l.invariant.3 m h) c.put_byte-in-loop-i.ensures,
+      λ m h. trace_next _ m _ _ _ _ _ l.invariant.0 (omega (arith, c.requires.2, c.requires.3)) (l.invariant.3 m h) c.put_byte-in-loop-i.ensures,
     )
 
 pub returns : goal.returns
-returns c = let d = c in
+returns c =
     let l = c.loop-i in
-    let e : l.i ≡ d.args.count = omega arith in
-    let first = trace_first d.args.trace.now d.args.out.now _ d.args.at (omega (arith, d.requires.3)) c.put_byte.ensures in (
-      subst (λ (k : ℕ). Put d.args.out.now l.out d.args.at l.p (hexadecimal (take k d.args.trace.now))) e (l.invariant.3 _ first),
+    let e : l.i ≡ c.args.count = omega arith in
+    let first = trace_first c.args.trace.now c.args.out.now _ c.args.at (omega (arith, c.requires.3)) c.put_byte.ensures in (
+      subst (λ (k : ℕ). Put c.args.out.now l.out c.args.at l.p (hexadecimal (take k c.args.trace.now))) e (l.invariant.3 _ first),
       omega (arith, l.invariant.2),
     )

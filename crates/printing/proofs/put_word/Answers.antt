@@ -1,9 +1,6 @@
 -- `printing::put_word` meets its contract. The loop's invariant: if the bytes from i on are written where they are left to be, all are. The measure is the bytes that are left. Assumes nothing.
-use Prim.Native.Nat.{◌+◌, ◌-◌, ◌≤◌}
-use mathlib.Core.Path.{◌≡◌, sym, ◌∙◌}
+use mathlib.Core.Path.{sym, ◌∙◌}
 use native.Mathlib.Omega.{arith}
-use lib.ListN.{length, drop}
-use Rattle.lists.specs.Lists.{write}
 use Rattle.printing.proofs.LineLaws.{word_start, word_next, word_end}
 use Rattle.printing.proofs.put_word.Goals as goal
 
