@@ -1,3 +1,4 @@
 pub mod TraceLaws
 pub mod ShownLaws
 pub mod CheckLaws
+pub mod Linking

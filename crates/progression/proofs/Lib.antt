@@ -6,3 +6,4 @@ pub mod PlaceLaws
 pub mod StepLaws
 pub mod RoutineLaws
 pub mod PassLaws
+pub mod Linking

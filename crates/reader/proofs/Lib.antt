@@ -6,3 +6,4 @@ pub mod TestLaws
 pub mod ProgramLaws
 pub mod HeaderLaws
 pub mod BodyLaws
+pub mod Linking

@@ -1,3 +1,4 @@
 pub mod NumberLaws
 pub mod CallLaws
 pub mod ReadLaws
+pub mod Linking

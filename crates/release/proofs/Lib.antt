@@ -5,3 +5,4 @@ pub mod StreamLaws
 pub mod FeedLaws
 pub mod FigureLaws
 pub mod SizeLaws
+pub mod Linking

@@ -4,7 +4,6 @@ ghost use Rattle.semantics.specs.Figures.{figure_numbers};
 ghost use Rattle.verifier.specs.Answers.{answer_of};
 ghost use Rattle.release.specs.Counting.{meant_by, counted_one, with_cut};
 
-use std::num::wrapping_add_u64;
 use verifier::Verdict;
 
 // How many were valid, invalid, stopped and refused, the sum of their counts, and the greatest length among the invalid.
@@ -41,7 +40,7 @@ impl Figures {
         ensures { result ≡ with_cut 1 self }
     {
         let mut after = self;
-        after.refused = wrapping_add_u64(self.refused, 1);
+        after.refused = self.refused.wrapping_add(1);
         after
     }
 
@@ -52,21 +51,21 @@ impl Figures {
         let mut after = self;
         match answer {
             Verdict::Valid(c) => {
-                after.valid = wrapping_add_u64(self.valid, 1);
-                after.sum = wrapping_add_u64(self.sum, c as u64);
+                after.valid = self.valid.wrapping_add(1);
+                after.sum = self.sum.wrapping_add(c as u64);
                 after
             }
             Verdict::Invalid(c, l) => {
-                after.invalid = wrapping_add_u64(self.invalid, 1);
-                after.sum = wrapping_add_u64(self.sum, c as u64);
+                after.invalid = self.invalid.wrapping_add(1);
+                after.sum = self.sum.wrapping_add(c as u64);
                 if after.greatest < l as u64 {
                     after.greatest = l as u64;
                 }
                 after
             }
             Verdict::Stopped(b) => {
-                after.stopped = wrapping_add_u64(self.stopped, 1);
-                after.sum = wrapping_add_u64(self.sum, b as u64);
+                after.stopped = self.stopped.wrapping_add(1);
+                after.sum = self.sum.wrapping_add(b as u64);
                 after
             }
             Verdict::ShortMemory => self.with_refused(),

@@ -9,3 +9,4 @@ pub mod RoomLaws
 pub mod PrepareLaws
 pub mod TableLaws
 pub mod FitLaws
+pub mod Linking

@@ -6,3 +6,4 @@ pub mod WalkLaws
 pub mod HeldLaws
 pub mod ListLaws
 pub mod Promises
+pub mod Linking

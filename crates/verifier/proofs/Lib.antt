@@ -4,3 +4,4 @@ pub mod SearchLaws
 pub mod FeasibleLaws
 pub mod LeastLaws
 pub mod AnswerLaws
+pub mod Linking

@@ -7,7 +7,6 @@ ghost use Rattle.verifier.specs.Memo.{slot_at, slot_words, recalled};
 
 use crate::limits::{MEMO_WORDS, SLOT_WORDS, SLOTS};
 use states::States;
-use std::num::wrapping_add_u64;
 
 // After `depth` actions, the states of a set being possible, an action comes whose replies lead on to node `onward`:
 // `behind` histories follow, and none of them fails. (`onward` is 0 in an empty slot alone.)
@@ -32,7 +31,7 @@ const HALF: u64 = 0x1_0000_0000;
 
 // Two words in one. The second counts twice, so that two words exchanged, or both the same, make another.
 fn joined(a: u64, b: u64) -> u64 {
-    wrapping_add_u64(a, wrapping_add_u64(b, b))
+    a.wrapping_add(b.wrapping_add(b))
 }
 
 // The slot for a set and a node. Any number would do; this one spreads places over the slots: of each half's product it
@@ -42,7 +41,7 @@ pub(crate) fn slot_number(set: States, onward: usize) -> usize
     ensures { result < slot_most }
 {
     let x = joined(set.w0, set.w1);
-    let y = wrapping_add_u64(joined(set.w2, set.w3), onward as u64);
+    let y = joined(set.w2, set.w3).wrapping_add(onward as u64);
     let a = (x % HALF * 0x9e37_79b1) ^ (x / HALF * 0x85eb_ca6b);
     let b = (y % HALF * 0xc2b2_ae35) ^ (y / HALF * 0x27d4_eb2f);
     (a ^ b) as usize / 0x100_0000 % SLOTS

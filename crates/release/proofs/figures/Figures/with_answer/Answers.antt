@@ -1,5 +1,5 @@
 -- `Figures::with_answer` meets its contract, by the kind of the answer. Assumes nothing.
-use Rattle.std.proofs.Common.{◌≡◌, sym, ap, ◌∙◌, rules}
+use Rattle.std.proofs.Common.{◌≡◌, refl, sym, ap, ◌∙◌, rules}
 use Rattle.verifier.specs.declared.verdict.Verdict.{Verdict}
 use Rattle.verifier.specs.Answers.{answer_of}
 use Rattle.release.specs.declared.figures.Figures.{Figures}
@@ -15,27 +15,27 @@ pub returns-in-Valid : goal.returns-in-Valid
 unfolding answer_of
 returns-in-Valid c = let f = c.args.self in
     let small : Small f = search rules in
-    counted_by f c.in-Valid.is _ (count_valid f small _ _ _ c.wrapping_add_u64.ensures.value c.wrapping_add_u64-in-Valid.ensures.value)
+    counted_by f c.in-Valid.is _ (count_valid f small _ _ _ refl refl)
 
 pub returns-then-after-l : goal.returns-then-after-l
 unfolding answer_of
 returns-then-after-l c = let f = c.args.self in
     let small : Small f = search rules in
     counted_by f c.in-Invalid.is _
-    (count_invalid f small _ _ _ _ _ c.wrapping_add_u64-in-Invalid.ensures.value c.wrapping_add_u64-in-Invalid-2.ensures.value (greater_less _ _ c.if-after-l.true))
+    (count_invalid f small _ _ _ _ _ refl refl (greater_less _ _ c.if-after-l.true))
 
 pub returns-else-after-l : goal.returns-else-after-l
 unfolding answer_of
 returns-else-after-l c = let f = c.args.self in
     let small : Small f = search rules in
     counted_by f c.in-Invalid.is _
-    (count_invalid f small _ _ _ _ _ c.wrapping_add_u64-in-Invalid.ensures.value c.wrapping_add_u64-in-Invalid-2.ensures.value (greater_not _ _ c.if-after-l.false))
+    (count_invalid f small _ _ _ _ _ refl refl (greater_not _ _ c.if-after-l.false))
 
 pub returns-in-Stopped : goal.returns-in-Stopped
 unfolding answer_of
 returns-in-Stopped c = let f = c.args.self in
     let small : Small f = search rules in
-    counted_by f c.in-Stopped.is _ (count_stopped f small _ _ _ c.wrapping_add_u64-in-Stopped.ensures.value c.wrapping_add_u64-in-Stopped-2.ensures.value)
+    counted_by f c.in-Stopped.is _ (count_stopped f small _ _ _ refl refl)
 
 pub returns-in-ShortMemory : goal.returns-in-ShortMemory
 unfolding answer_of
