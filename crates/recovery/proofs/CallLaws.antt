@@ -12,7 +12,8 @@ use base.Logic.{SProp, sep, id⊢}
 use prog.Memory.{Memory}
 use prog.Model.{Model}
 use types.Logic.{Logic}
-use contract.Running.{Running, real}
+use prog.Wired.{Wired}
+use contract.Running.{Running, strict}
 use contract.Adequate.{Satisfies}
 use Rattle.machine.specs.Calls.{Place, reads, writes, number, value_of, values_of, Fits, AllFit, Owned}
 use Rattle.machine.proofs.Passing.{bound, Leaves, so, said}
@@ -117,279 +118,276 @@ use Rattle.recovery.proofs.recovery_figures_print.Symbol as line-symbol
 head_is : {v u : Val} → ◌≡◌ {A = List Val} (v ∷ []) (u ∷ []) → v ≡ u
 head_is e = cc
 
-module _ {M : Type 1} {𝓤 : Ura M} (𝓛 : Logic 𝓤) (𝓜 : Model 𝓤 𝓛.H) (p : ℕ → Place) where
+module _ {M : Type 1} {𝓤 : Ura M} (𝓛 : Logic 𝓤) (𝓜 : Model 𝓤 𝓛.H) (𝓡 : Running 𝓤 𝓛.H 𝓜) (p : ℕ → Place) where
   open 𝓛 use {H}
 
-  abbrev 𝓡 : Running 𝓤 H 𝓜
-  𝓡 = real 𝓤 H 𝓜
-
-  pub read_leaves : (sheet : List ℕ)
-      → Leaves 𝓛 𝓜 read-symbol.routine (to_read p sheet) (vint w8 (number_for (reading sheet))) (to_read p sheet)
+  pub read_leaves : Wired 𝓡.env read-symbol.code → (sheet : List ℕ)
+      → Leaves 𝓛 𝓜 (𝓡.env read-symbol.name) (to_read p sheet) (vint w8 (number_for (reading sheet))) (to_read p sheet)
   unfolding values_of value_of
-  read_leaves sheet fit σ F s =
+  read_leaves wired sheet fit σ F s =
       let args = to_read p sheet in
       ∥∥₁_map
-      (said 𝓛 𝓜 read.signature read-symbol.routine (read.spec 𝓛 𝓜.mem 𝓡.run) (read-met.met 𝓤 𝓛 𝓜 𝓡) (read.ended).kept args (bound args) (λ ns. tt)
+      (said 𝓛 𝓜 𝓡 read.signature (𝓡.env read-symbol.name) (read.spec 𝓛 𝓜.mem 𝓡.returns) (read-met.met 𝓤 𝓛 𝓜 (strict 𝓤 H 𝓜 𝓡) wired) (read.ended).kept args (bound args) (λ ns. tt)
       (λ ns. read-reads.Learnt (bound args ns).0 (bound args ns).3) (λ ns t. id⊢ 𝓤 _) (λ ns. refl) (λ ns. id⊢ 𝓤 _) (λ ns ws. ws) (λ ns ws. id⊢ 𝓤 _) fit σ F s)
       (λ q.
       let f = q.7 in
-      so 𝓛 𝓜 read-symbol.routine args σ F q.1 _ _ _ q.2 (head_is q.6.0 ∙ ap (vint w8) f) (refl) (q.5, q.8.0, q.8.1, q.8.2))
+      so 𝓛 𝓜 (𝓡.env read-symbol.name) args σ F q.1 _ _ _ q.2 (head_is q.6.0 ∙ ap (vint w8) f) (refl) (q.5, q.8.0, q.8.1, q.8.2))
 
-  pub prepare_leaves : (sheet : List ℕ) (t : Tables) (start : List ℕ)
-      → Leaves 𝓛 𝓜 prepare-symbol.routine (to_prepare p sheet t start) (vint w8 (number_for (reading sheet))) (to_prepare p sheet (tables_after (reading sheet) t) (memory_after start_words (reading sheet) start))
+  pub prepare_leaves : Wired 𝓡.env prepare-symbol.code → (sheet : List ℕ) (t : Tables) (start : List ℕ)
+      → Leaves 𝓛 𝓜 (𝓡.env prepare-symbol.name) (to_prepare p sheet t start) (vint w8 (number_for (reading sheet))) (to_prepare p sheet (tables_after (reading sheet) t) (memory_after start_words (reading sheet) start))
   unfolding values_of value_of
-  prepare_leaves sheet t start fit σ F s =
+  prepare_leaves wired sheet t start fit σ F s =
       let args = to_prepare p sheet t start in
       ∥∥₁_map
-      (said 𝓛 𝓜 prepare.signature prepare-symbol.routine (prepare.spec 𝓛 𝓜.mem 𝓡.run) (prepare-met.met 𝓤 𝓛 𝓜 𝓡) (prepare.ended).kept args (bound args) (λ ns. tt)
+      (said 𝓛 𝓜 𝓡 prepare.signature (𝓡.env prepare-symbol.name) (prepare.spec 𝓛 𝓜.mem 𝓡.returns) (prepare-met.met 𝓤 𝓛 𝓜 (strict 𝓤 H 𝓜 𝓡) wired) (prepare.ended).kept args (bound args) (λ ns. tt)
       (λ ns. prepare-reads.Learnt (bound args ns).0 (bound args ns).3) (λ ns t. id⊢ 𝓤 _) (λ ns. refl) (λ ns. id⊢ 𝓤 _) (λ ns ws. ws) (λ ns ws. id⊢ 𝓤 _) fit σ F s)
       (λ q.
       let f = q.7 in
-      so 𝓛 𝓜 prepare-symbol.routine args σ F q.1 _ _ _ q.2 (head_is q.6.0 ∙ ap (vint w8) f.0) (λ i. to_prepare p sheet (record { heads = f.2.0 i; nodes = f.2.1 i; sets = f.2.2 i }) (f.1 i)) (q.5, q.8.0, q.8.1, q.8.2))
+      so 𝓛 𝓜 (𝓡.env prepare-symbol.name) args σ F q.1 _ _ _ q.2 (head_is q.6.0 ∙ ap (vint w8) f.0) (λ i. to_prepare p sheet (record { heads = f.2.0 i; nodes = f.2.1 i; sets = f.2.2 i }) (f.1 i)) (q.5, q.8.0, q.8.1, q.8.2))
 
-  pub step_leaves : (t : Tables) (set : List ℕ) (action reply : ℕ)
-      → Leaves 𝓛 𝓜 step-symbol.routine (to_step p t set action reply) (vunit) (to_step p t (words (stepped t.heads t.sets (of_words set) action reply)) action reply)
+  pub step_leaves : Wired 𝓡.env step-symbol.code → (t : Tables) (set : List ℕ) (action reply : ℕ)
+      → Leaves 𝓛 𝓜 (𝓡.env step-symbol.name) (to_step p t set action reply) (vunit) (to_step p t (words (stepped t.heads t.sets (of_words set) action reply)) action reply)
   unfolding values_of value_of
-  step_leaves t set action reply fit σ F s =
+  step_leaves wired t set action reply fit σ F s =
       let args = to_step p t set action reply in
       ∥∥₁_map
-      (said 𝓛 𝓜 step.signature step-symbol.routine (step.spec 𝓛 𝓜.mem 𝓡.run) (step-met.met 𝓤 𝓛 𝓜 𝓡) (step.ended).kept args (bound args) (λ ns. tt)
+      (said 𝓛 𝓜 𝓡 step.signature (𝓡.env step-symbol.name) (step.spec 𝓛 𝓜.mem 𝓡.returns) (step-met.met 𝓤 𝓛 𝓜 (strict 𝓤 H 𝓜 𝓡) wired) (step.ended).kept args (bound args) (λ ns. tt)
       (λ ns. step-reads.Learnt (bound args ns).0 (bound args ns).3) (λ ns t. id⊢ 𝓤 _) (λ ns. refl) (λ ns. id⊢ 𝓤 _) (λ ns ws. ws) (λ ns ws. id⊢ 𝓤 _) fit σ F s)
       (λ q.
       let f = q.7 in
-      so 𝓛 𝓜 step-symbol.routine args σ F q.1 _ _ _ q.2 (head_is q.6) (λ i. to_step p t (f i) action reply) (q.5, q.8.0, q.8.1, q.8.2))
+      so 𝓛 𝓜 (𝓡.env step-symbol.name) args σ F q.1 _ _ _ q.2 (head_is q.6) (λ i. to_step p t (f i) action reply) (q.5, q.8.0, q.8.1, q.8.2))
 
-  pub pass_leaves : (t : Tables) (set : List ℕ) (action reply : ℕ) (evaluations : List ℕ)
-      → Leaves 𝓛 𝓜 pass-symbol.routine (to_pass p t set action reply evaluations) (vint w8 (flag_number (passed_by t.heads t.sets (of_words set) action reply).possible))
+  pub pass_leaves : Wired 𝓡.env pass-symbol.code → (t : Tables) (set : List ℕ) (action reply : ℕ) (evaluations : List ℕ)
+      → Leaves 𝓛 𝓜 (𝓡.env pass-symbol.name) (to_pass p t set action reply evaluations) (vint w8 (flag_number (passed_by t.heads t.sets (of_words set) action reply).possible))
       (to_pass p t (words (passed_by t.heads t.sets (of_words set) action reply).kept) action reply ((passed_by t.heads t.sets (of_words set) action reply).evaluations ∷ []))
   unfolding values_of value_of
-  pass_leaves t set action reply evaluations fit σ F s =
+  pass_leaves wired t set action reply evaluations fit σ F s =
       let args = to_pass p t set action reply evaluations in
       ∥∥₁_map
-      (said 𝓛 𝓜 pass.signature pass-symbol.routine (pass.spec 𝓛 𝓜.mem 𝓡.run) (pass-met.met 𝓤 𝓛 𝓜 𝓡) (pass.ended).kept args (bound args) (λ ns. tt)
+      (said 𝓛 𝓜 𝓡 pass.signature (𝓡.env pass-symbol.name) (pass.spec 𝓛 𝓜.mem 𝓡.returns) (pass-met.met 𝓤 𝓛 𝓜 (strict 𝓤 H 𝓜 𝓡) wired) (pass.ended).kept args (bound args) (λ ns. tt)
       (λ ns. pass-reads.Learnt (bound args ns).0 (bound args ns).3) (λ ns t. id⊢ 𝓤 _) (λ ns. refl) (λ ns. id⊢ 𝓤 _) (λ ns ws. ws) (λ ns ws. id⊢ 𝓤 _) fit σ F s)
       (λ q.
       let f = q.7 in
-      so 𝓛 𝓜 pass-symbol.routine args σ F q.1 _ _ _ q.2 (head_is q.6.0 ∙ ap (vint w8) f.0) (λ i. to_pass p t (f.1 i) action reply (f.2 i)) (q.5, q.8.0, q.8.1, q.8.2))
+      so 𝓛 𝓜 (𝓡.env pass-symbol.name) args σ F q.1 _ _ _ q.2 (head_is q.6.0 ∙ ap (vint w8) f.0) (λ i. to_pass p t (f.1 i) action reply (f.2 i)) (q.5, q.8.0, q.8.1, q.8.2))
 
-  pub settle_leaves : (t : Tables) (set : List ℕ) (at : ℕ)
-      → Leaves 𝓛 𝓜 settle-symbol.routine (to_settle p t set at) (vint w64 (place_number (settled t.nodes t.sets (of_words set) at))) (to_settle p t set at)
+  pub settle_leaves : Wired 𝓡.env settle-symbol.code → (t : Tables) (set : List ℕ) (at : ℕ)
+      → Leaves 𝓛 𝓜 (𝓡.env settle-symbol.name) (to_settle p t set at) (vint w64 (place_number (settled t.nodes t.sets (of_words set) at))) (to_settle p t set at)
   unfolding values_of value_of
-  settle_leaves t set at fit σ F s =
+  settle_leaves wired t set at fit σ F s =
       let args = to_settle p t set at in
       ∥∥₁_map
-      (said 𝓛 𝓜 settle.signature settle-symbol.routine (settle.spec 𝓛 𝓜.mem 𝓡.run) (settle-met.met 𝓤 𝓛 𝓜 𝓡) (settle.ended).kept args (bound args) (λ ns. tt)
+      (said 𝓛 𝓜 𝓡 settle.signature (𝓡.env settle-symbol.name) (settle.spec 𝓛 𝓜.mem 𝓡.returns) (settle-met.met 𝓤 𝓛 𝓜 (strict 𝓤 H 𝓜 𝓡) wired) (settle.ended).kept args (bound args) (λ ns. tt)
       (λ ns. settle-reads.Learnt (bound args ns).0 (bound args ns).3) (λ ns t. id⊢ 𝓤 _) (λ ns. refl) (λ ns. id⊢ 𝓤 _) (λ ns ws. ws) (λ ns ws. id⊢ 𝓤 _) fit σ F s)
       (λ q.
       let f = q.7 in
-      so 𝓛 𝓜 settle-symbol.routine args σ F q.1 _ _ _ q.2 (head_is q.6.0 ∙ ap (vint w64) f.0) (refl) (q.5, q.8.0, q.8.1, q.8.2))
+      so 𝓛 𝓜 (𝓡.env settle-symbol.name) args σ F q.1 _ _ _ q.2 (head_is q.6.0 ∙ ap (vint w64) f.0) (refl) (q.5, q.8.0, q.8.1, q.8.2))
 
   -- And what it tells stands inside the memory.
-  pub settle_inside : (t : Tables) (set : List ℕ) (at : ℕ) → AllFit (to_settle p t set at) → (σ : Memory) (F : SProp 𝓤) → Satisfies 𝓤 H 𝓜 σ (sep 𝓤 (Owned 𝓤 H 𝓜 (to_settle p t set at)) F)
+  pub settle_inside : Wired 𝓡.env settle-symbol.code → (t : Tables) (set : List ℕ) (at : ℕ) → AllFit (to_settle p t set at) → (σ : Memory) (F : SProp 𝓤) → Satisfies 𝓤 H 𝓜 σ (sep 𝓤 (Owned 𝓤 H 𝓜 (to_settle p t set at)) F)
       → ∥ Inside (settled t.nodes t.sets (of_words set) at) ∥₁
   unfolding values_of value_of
-  settle_inside t set at fit σ F s =
+  settle_inside wired t set at fit σ F s =
       let args = to_settle p t set at in
       ∥∥₁_map
-      (said 𝓛 𝓜 settle.signature settle-symbol.routine (settle.spec 𝓛 𝓜.mem 𝓡.run) (settle-met.met 𝓤 𝓛 𝓜 𝓡) (settle.ended).kept args (bound args) (λ ns. tt)
+      (said 𝓛 𝓜 𝓡 settle.signature (𝓡.env settle-symbol.name) (settle.spec 𝓛 𝓜.mem 𝓡.returns) (settle-met.met 𝓤 𝓛 𝓜 (strict 𝓤 H 𝓜 𝓡) wired) (settle.ended).kept args (bound args) (λ ns. tt)
       (λ ns. settle-reads.Learnt (bound args ns).0 (bound args ns).3) (λ ns t. id⊢ 𝓤 _) (λ ns. refl) (λ ns. id⊢ 𝓤 _) (λ ns ws. ws) (λ ns ws. id⊢ 𝓤 _) fit σ F s) (λ q. q.7.1)
 
-  pub known_leaves : (t : Tables) (set : List ℕ) (k : ℕ)
-      → Leaves 𝓛 𝓜 known-symbol.routine (to_know p t set k) (vint w8 (flag_number (known_by t.sets (of_words set) k))) (to_know p t set k)
+  pub known_leaves : Wired 𝓡.env known-symbol.code → (t : Tables) (set : List ℕ) (k : ℕ)
+      → Leaves 𝓛 𝓜 (𝓡.env known-symbol.name) (to_know p t set k) (vint w8 (flag_number (known_by t.sets (of_words set) k))) (to_know p t set k)
   unfolding values_of value_of
-  known_leaves t set k fit σ F s =
+  known_leaves wired t set k fit σ F s =
       let args = to_know p t set k in
       ∥∥₁_map
-      (said 𝓛 𝓜 known.signature known-symbol.routine (known.spec 𝓛 𝓜.mem 𝓡.run) (known-met.met 𝓤 𝓛 𝓜 𝓡) (known.ended).kept args (bound args) (λ ns. tt)
+      (said 𝓛 𝓜 𝓡 known.signature (𝓡.env known-symbol.name) (known.spec 𝓛 𝓜.mem 𝓡.returns) (known-met.met 𝓤 𝓛 𝓜 (strict 𝓤 H 𝓜 𝓡) wired) (known.ended).kept args (bound args) (λ ns. tt)
       (λ ns. known-reads.Learnt (bound args ns).0 (bound args ns).3) (λ ns t. id⊢ 𝓤 _) (λ ns. refl) (λ ns. id⊢ 𝓤 _) (λ ns ws. ws) (λ ns ws. id⊢ 𝓤 _) fit σ F s)
       (λ q.
       let f = q.7 in
-      so 𝓛 𝓜 known-symbol.routine args σ F q.1 _ _ _ q.2 (head_is q.6.0 ∙ ap (vint w8) f) (refl) (q.5, q.8.0, q.8.1, q.8.2))
+      so 𝓛 𝓜 (𝓡.env known-symbol.name) args σ F q.1 _ _ _ q.2 (head_is q.6.0 ∙ ap (vint w8) f) (refl) (q.5, q.8.0, q.8.1, q.8.2))
 
-  pub verify_leaves : (sheet : List ℕ) (budget : ℕ) (trace verdict : List ℕ)
-      → Leaves 𝓛 𝓜 verify-symbol.routine (to_verify p sheet budget trace verdict) (vint w8 (number_for (verified sheet budget trace).answer)) (to_verify p sheet budget (verified sheet budget trace).memory (memory_after verdict_numbers (verified sheet budget trace).answer verdict))
+  pub verify_leaves : Wired 𝓡.env verify-symbol.code → (sheet : List ℕ) (budget : ℕ) (trace verdict : List ℕ)
+      → Leaves 𝓛 𝓜 (𝓡.env verify-symbol.name) (to_verify p sheet budget trace verdict) (vint w8 (number_for (verified sheet budget trace).answer)) (to_verify p sheet budget (verified sheet budget trace).memory (memory_after verdict_numbers (verified sheet budget trace).answer verdict))
   unfolding values_of value_of
-  verify_leaves sheet budget trace verdict fit σ F s =
+  verify_leaves wired sheet budget trace verdict fit σ F s =
       let args = to_verify p sheet budget trace verdict in
       ∥∥₁_map
-      (said 𝓛 𝓜 verify.signature verify-symbol.routine (verify.spec 𝓛 𝓜.mem 𝓡.run) (verify-met.met 𝓤 𝓛 𝓜 𝓡) (verify.ended).kept args (bound args) (λ ns. tt)
+      (said 𝓛 𝓜 𝓡 verify.signature (𝓡.env verify-symbol.name) (verify.spec 𝓛 𝓜.mem 𝓡.returns) (verify-met.met 𝓤 𝓛 𝓜 (strict 𝓤 H 𝓜 𝓡) wired) (verify.ended).kept args (bound args) (λ ns. tt)
       (λ ns. verify-reads.Learnt (bound args ns).0 (bound args ns).3) (λ ns t. id⊢ 𝓤 _) (λ ns. refl) (λ ns. id⊢ 𝓤 _) (λ ns ws. ws) (λ ns ws. id⊢ 𝓤 _) fit σ F s)
       (λ q.
       let v = verified sheet budget trace in
       let f : (q.3 ≡ number_for v.answer) × (q.4.1.1.0 ≡ v.memory) × (q.4.1.1.1.0 ≡ memory_after verdict_numbers v.answer verdict) = q.7 in
-      so 𝓛 𝓜 verify-symbol.routine args σ F q.1 _ _ _ q.2 (head_is q.6.0 ∙ ap (vint w8) f.0) (λ i. to_verify p sheet budget (f.1 i) (f.2 i)) (q.5, q.8.0, q.8.1, q.8.2))
+      so 𝓛 𝓜 (𝓡.env verify-symbol.name) args σ F q.1 _ _ _ q.2 (head_is q.6.0 ∙ ap (vint w8) f.0) (λ i. to_verify p sheet budget (f.1 i) (f.2 i)) (q.5, q.8.0, q.8.1, q.8.2))
 
-  pub verify_in_leaves : (sheet : List ℕ) (budget : ℕ) (trace verdict : List ℕ) (t : Tables) (memo : List ℕ)
-      → Leaves 𝓛 𝓜 verify-in-symbol.routine (to_verify_in p sheet budget trace verdict t memo) (vint w8 (number_for (verified sheet budget trace).answer)) (to_verify_in p sheet budget (verified sheet budget trace).memory (memory_after verdict_numbers (verified sheet budget trace).answer verdict) (tables_after (admitted sheet trace) t) (cleared (admitted sheet trace) memo))
+  pub verify_in_leaves : Wired 𝓡.env verify-in-symbol.code → (sheet : List ℕ) (budget : ℕ) (trace verdict : List ℕ) (t : Tables) (memo : List ℕ)
+      → Leaves 𝓛 𝓜 (𝓡.env verify-in-symbol.name) (to_verify_in p sheet budget trace verdict t memo) (vint w8 (number_for (verified sheet budget trace).answer)) (to_verify_in p sheet budget (verified sheet budget trace).memory (memory_after verdict_numbers (verified sheet budget trace).answer verdict) (tables_after (admitted sheet trace) t) (cleared (admitted sheet trace) memo))
   unfolding values_of value_of AllFit Fits
-  verify_in_leaves sheet budget trace verdict t memo fit σ F s =
+  verify_in_leaves wired sheet budget trace verdict t memo fit σ F s =
       let args = to_verify_in p sheet budget trace verdict t memo in
       ∥∥₁_map
-      (said 𝓛 𝓜 verify-in.signature verify-in-symbol.routine (verify-in.spec 𝓛 𝓜.mem 𝓡.run) (verify-in-met.met 𝓤 𝓛 𝓜 𝓡) (verify-in.ended).kept args (bound args) (λ ns. tt)
+      (said 𝓛 𝓜 𝓡 verify-in.signature (𝓡.env verify-in-symbol.name) (verify-in.spec 𝓛 𝓜.mem 𝓡.returns) (verify-in-met.met 𝓤 𝓛 𝓜 (strict 𝓤 H 𝓜 𝓡) wired) (verify-in.ended).kept args (bound args) (λ ns. tt)
       (λ ns. verify-in-reads.Learnt (bound args ns).0 (bound args ns).3) (λ ns t. id⊢ 𝓤 _) (λ ns. refl) (λ ns. id⊢ 𝓤 _) (λ ns ws. ws) (λ ns ws. id⊢ 𝓤 _) fit σ F s)
       (λ q.
       let f = q.7 in
-      so 𝓛 𝓜 verify-in-symbol.routine args σ F q.1 _ _ _ q.2 (head_is q.6.0 ∙ ap (vint w8) (f.0 (fit.1.1.1.1.0, fit.1.1.1.1.1.0, fit.1.1.1.1.1.1.0)).0) (λ i. to_verify_in p sheet budget ((f.0 (fit.1.1.1.1.0, fit.1.1.1.1.1.0, fit.1.1.1.1.1.1.0)).1 i) ((f.0 (fit.1.1.1.1.0, fit.1.1.1.1.1.0, fit.1.1.1.1.1.1.0)).2 i) (record { heads = f.2.0 i; nodes = f.2.1 i; sets = f.2.2 i }) (f.1 i)) (q.5, q.8.0, q.8.1, q.8.2))
+      so 𝓛 𝓜 (𝓡.env verify-in-symbol.name) args σ F q.1 _ _ _ q.2 (head_is q.6.0 ∙ ap (vint w8) (f.0 (fit.1.1.1.1.0, fit.1.1.1.1.1.0, fit.1.1.1.1.1.1.0)).0) (λ i. to_verify_in p sheet budget ((f.0 (fit.1.1.1.1.0, fit.1.1.1.1.1.0, fit.1.1.1.1.1.1.0)).1 i) ((f.0 (fit.1.1.1.1.0, fit.1.1.1.1.1.0, fit.1.1.1.1.1.1.0)).2 i) (record { heads = f.2.0 i; nodes = f.2.1 i; sets = f.2.2 i }) (f.1 i)) (q.5, q.8.0, q.8.1, q.8.2))
 
-  pub check_leaves : (sheet trace : List ℕ)
-      → Leaves 𝓛 𝓜 check-symbol.routine (to_check p sheet trace) (vint w8 (checked_number (checked sheet trace))) (to_check p sheet trace)
+  pub check_leaves : Wired 𝓡.env check-symbol.code → (sheet trace : List ℕ)
+      → Leaves 𝓛 𝓜 (𝓡.env check-symbol.name) (to_check p sheet trace) (vint w8 (checked_number (checked sheet trace))) (to_check p sheet trace)
   unfolding values_of value_of
-  check_leaves sheet trace fit σ F s =
+  check_leaves wired sheet trace fit σ F s =
       let args = to_check p sheet trace in
       ∥∥₁_map
-      (said 𝓛 𝓜 check.signature check-symbol.routine (check.spec 𝓛 𝓜.mem 𝓡.run) (check-met.met 𝓤 𝓛 𝓜 𝓡) (check.ended).kept args (bound args) (λ ns. tt)
+      (said 𝓛 𝓜 𝓡 check.signature (𝓡.env check-symbol.name) (check.spec 𝓛 𝓜.mem 𝓡.returns) (check-met.met 𝓤 𝓛 𝓜 (strict 𝓤 H 𝓜 𝓡) wired) (check.ended).kept args (bound args) (λ ns. tt)
       (λ ns. check-reads.Learnt (bound args ns).0 (bound args ns).3) (λ ns t. id⊢ 𝓤 _) (λ ns. refl) (λ ns. id⊢ 𝓤 _) (λ ns ws. ws) (λ ns ws. id⊢ 𝓤 _) fit σ F s)
       (λ q.
       let f = q.7 in
-      so 𝓛 𝓜 check-symbol.routine args σ F q.1 _ _ _ q.2 (head_is q.6.0 ∙ ap (vint w8) f) (refl) (q.5, q.8.0, q.8.1, q.8.2))
+      so 𝓛 𝓜 (𝓡.env check-symbol.name) args σ F q.1 _ _ _ q.2 (head_is q.6.0 ∙ ap (vint w8) f) (refl) (q.5, q.8.0, q.8.1, q.8.2))
 
-  pub check_in_leaves : (sheet trace : List ℕ) (t : Tables)
-      → Leaves 𝓛 𝓜 check-in-symbol.routine (to_check_in p sheet trace t) (vint w8 (checked_number (checked sheet trace))) (to_check_in p sheet trace (tables_after (reading sheet) t))
+  pub check_in_leaves : Wired 𝓡.env check-in-symbol.code → (sheet trace : List ℕ) (t : Tables)
+      → Leaves 𝓛 𝓜 (𝓡.env check-in-symbol.name) (to_check_in p sheet trace t) (vint w8 (checked_number (checked sheet trace))) (to_check_in p sheet trace (tables_after (reading sheet) t))
   unfolding values_of value_of AllFit Fits
-  check_in_leaves sheet trace t fit σ F s =
+  check_in_leaves wired sheet trace t fit σ F s =
       let args = to_check_in p sheet trace t in
       ∥∥₁_map
-      (said 𝓛 𝓜 check-in.signature check-in-symbol.routine (check-in.spec 𝓛 𝓜.mem 𝓡.run) (check-in-met.met 𝓤 𝓛 𝓜 𝓡) (check-in.ended).kept args (bound args) (λ ns. tt)
+      (said 𝓛 𝓜 𝓡 check-in.signature (𝓡.env check-in-symbol.name) (check-in.spec 𝓛 𝓜.mem 𝓡.returns) (check-in-met.met 𝓤 𝓛 𝓜 (strict 𝓤 H 𝓜 𝓡) wired) (check-in.ended).kept args (bound args) (λ ns. tt)
       (λ ns. check-in-reads.Learnt (bound args ns).0 (bound args ns).3) (λ ns t. id⊢ 𝓤 _) (λ ns. refl) (λ ns. id⊢ 𝓤 _) (λ ns ws. ws) (λ ns ws. id⊢ 𝓤 _) fit σ F s)
       (λ q.
       let f = q.7 in
-      so 𝓛 𝓜 check-in-symbol.routine args σ F q.1 _ _ _ q.2 (head_is q.6.0 ∙ ap (vint w8) (f.0 (fit.1.1.0, fit.1.1.1.0, fit.1.1.1.1.0))) (λ i. to_check_in p sheet trace (record { heads = f.1.0 i; nodes = f.1.1 i; sets = f.1.2 i })) (q.5, q.8.0, q.8.1, q.8.2))
+      so 𝓛 𝓜 (𝓡.env check-in-symbol.name) args σ F q.1 _ _ _ q.2 (head_is q.6.0 ∙ ap (vint w8) (f.0 (fit.1.1.0, fit.1.1.1.0, fit.1.1.1.1.0))) (λ i. to_check_in p sheet trace (record { heads = f.1.0 i; nodes = f.1.1 i; sets = f.1.2 i })) (q.5, q.8.0, q.8.1, q.8.2))
 
-  pub print_leaves : (sheet out : List ℕ)
-      → Leaves 𝓛 𝓜 print-symbol.routine (to_print p sheet out) (vint w64 (length (printed sheet))) (to_print p sheet (write out 0 (printed sheet)))
+  pub print_leaves : Wired 𝓡.env print-symbol.code → (sheet out : List ℕ)
+      → Leaves 𝓛 𝓜 (𝓡.env print-symbol.name) (to_print p sheet out) (vint w64 (length (printed sheet))) (to_print p sheet (write out 0 (printed sheet)))
   unfolding values_of value_of
-  print_leaves sheet out fit σ F s =
+  print_leaves wired sheet out fit σ F s =
       let args = to_print p sheet out in
       ∥∥₁_map
-      (said 𝓛 𝓜 print.signature print-symbol.routine (print.spec 𝓛 𝓜.mem 𝓡.run) (print-met.met 𝓤 𝓛 𝓜 𝓡) (print.ended).kept args (bound args) (λ ns. tt)
+      (said 𝓛 𝓜 𝓡 print.signature (𝓡.env print-symbol.name) (print.spec 𝓛 𝓜.mem 𝓡.returns) (print-met.met 𝓤 𝓛 𝓜 (strict 𝓤 H 𝓜 𝓡) wired) (print.ended).kept args (bound args) (λ ns. tt)
       (λ ns. print-reads.Learnt (bound args ns).0 (bound args ns).3) (λ ns t. id⊢ 𝓤 _) (λ ns. refl) (λ ns. id⊢ 𝓤 _) (λ ns ws. ws) (λ ns ws. id⊢ 𝓤 _) fit σ F s)
       (λ q.
       let f = q.7 in
-      so 𝓛 𝓜 print-symbol.routine args σ F q.1 _ _ _ q.2 (head_is q.6.0 ∙ ap (vint w64) f.0) (λ i. to_print p sheet (f.1 i)) (q.5, q.8.0, q.8.1, q.8.2))
+      so 𝓛 𝓜 (𝓡.env print-symbol.name) args σ F q.1 _ _ _ q.2 (head_is q.6.0 ∙ ap (vint w64) f.0) (λ i. to_print p sheet (f.1 i)) (q.5, q.8.0, q.8.1, q.8.2))
 
   -- And the lines have room.
-  pub print_within : (sheet out : List ℕ) → AllFit (to_print p sheet out) → (σ : Memory) (F : SProp 𝓤) → Satisfies 𝓤 H 𝓜 σ (sep 𝓤 (Owned 𝓤 H 𝓜 (to_print p sheet out)) F) → ∥ (length (printed sheet) ≤ most_lines) ∥₁
+  pub print_within : Wired 𝓡.env print-symbol.code → (sheet out : List ℕ) → AllFit (to_print p sheet out) → (σ : Memory) (F : SProp 𝓤) → Satisfies 𝓤 H 𝓜 σ (sep 𝓤 (Owned 𝓤 H 𝓜 (to_print p sheet out)) F) → ∥ (length (printed sheet) ≤ most_lines) ∥₁
   unfolding values_of value_of
-  print_within sheet out fit σ F s =
+  print_within wired sheet out fit σ F s =
       let args = to_print p sheet out in
       ∥∥₁_map
-      (said 𝓛 𝓜 print.signature print-symbol.routine (print.spec 𝓛 𝓜.mem 𝓡.run) (print-met.met 𝓤 𝓛 𝓜 𝓡) (print.ended).kept args (bound args) (λ ns. tt)
+      (said 𝓛 𝓜 𝓡 print.signature (𝓡.env print-symbol.name) (print.spec 𝓛 𝓜.mem 𝓡.returns) (print-met.met 𝓤 𝓛 𝓜 (strict 𝓤 H 𝓜 𝓡) wired) (print.ended).kept args (bound args) (λ ns. tt)
       (λ ns. print-reads.Learnt (bound args ns).0 (bound args ns).3) (λ ns t. id⊢ 𝓤 _) (λ ns. refl) (λ ns. id⊢ 𝓤 _) (λ ns ws. ws) (λ ns ws. id⊢ 𝓤 _) fit σ F s) (λ q. subst (λ (k : ℕ). k ≤ most_lines) q.7.0 q.7.2)
 
-  pub load_leaves : (sheet : List ℕ) (r : Record)
-      → Leaves 𝓛 𝓜 load-symbol.routine (to_load p sheet r) (vint w8 (number_for (reading sheet))) (to_load p sheet (loaded sheet))
+  pub load_leaves : Wired 𝓡.env load-symbol.code → (sheet : List ℕ) (r : Record)
+      → Leaves 𝓛 𝓜 (𝓡.env load-symbol.name) (to_load p sheet r) (vint w8 (number_for (reading sheet))) (to_load p sheet (loaded sheet))
   unfolding values_of value_of
-  load_leaves sheet r fit σ F s =
+  load_leaves wired sheet r fit σ F s =
       let args = to_load p sheet r in
       ∥∥₁_map
-      (said 𝓛 𝓜 load.signature load-symbol.routine (load.spec 𝓛 𝓜.mem 𝓡.run) (load-met.met 𝓤 𝓛 𝓜 𝓡) (load.ended).kept args (bound args) (λ ns. tt)
+      (said 𝓛 𝓜 𝓡 load.signature (𝓡.env load-symbol.name) (load.spec 𝓛 𝓜.mem 𝓡.returns) (load-met.met 𝓤 𝓛 𝓜 (strict 𝓤 H 𝓜 𝓡) wired) (load.ended).kept args (bound args) (λ ns. tt)
       (λ ns. load-reads.Learnt (bound args ns).0 (bound args ns).3) (λ ns t. id⊢ 𝓤 _) (λ ns. refl) (λ ns. id⊢ 𝓤 _) (λ ns ws. ws) (λ ns ws. id⊢ 𝓤 _) fit σ F s)
       (λ q.
       let f = q.7 in
-      so 𝓛 𝓜 load-symbol.routine args σ F q.1 _ _ _ q.2 (head_is q.6.0 ∙ ap (vint w8) f.0) (λ i. bytes_at (p 0) sheet ∷ record_pieces writes writes (p 1) (p 2) (p 3) (f.1 i) (f.2 i) (f.3 i)) (q.5, q.8.0, q.8.1, q.8.2))
+      so 𝓛 𝓜 (𝓡.env load-symbol.name) args σ F q.1 _ _ _ q.2 (head_is q.6.0 ∙ ap (vint w8) f.0) (λ i. bytes_at (p 0) sheet ∷ record_pieces writes writes (p 1) (p 2) (p 3) (f.1 i) (f.2 i) (f.3 i)) (q.5, q.8.0, q.8.1, q.8.2))
 
-  pub load_in_leaves : (sheet : List ℕ) (r : Record) (t : Tables)
-      → Leaves 𝓛 𝓜 load-in-symbol.routine (to_load_in p sheet r t) (vint w8 (number_for (reading sheet))) (to_load_in p sheet (loaded sheet) (tables_after (reading sheet) t))
+  pub load_in_leaves : Wired 𝓡.env load-in-symbol.code → (sheet : List ℕ) (r : Record) (t : Tables)
+      → Leaves 𝓛 𝓜 (𝓡.env load-in-symbol.name) (to_load_in p sheet r t) (vint w8 (number_for (reading sheet))) (to_load_in p sheet (loaded sheet) (tables_after (reading sheet) t))
   unfolding values_of value_of
-  load_in_leaves sheet r t fit σ F s =
+  load_in_leaves wired sheet r t fit σ F s =
       let args = to_load_in p sheet r t in
       ∥∥₁_map
-      (said 𝓛 𝓜 load-in.signature load-in-symbol.routine (load-in.spec 𝓛 𝓜.mem 𝓡.run) (load-in-met.met 𝓤 𝓛 𝓜 𝓡) (load-in.ended).kept args (bound args) (λ ns. tt)
+      (said 𝓛 𝓜 𝓡 load-in.signature (𝓡.env load-in-symbol.name) (load-in.spec 𝓛 𝓜.mem 𝓡.returns) (load-in-met.met 𝓤 𝓛 𝓜 (strict 𝓤 H 𝓜 𝓡) wired) (load-in.ended).kept args (bound args) (λ ns. tt)
       (λ ns. load-in-reads.Learnt (bound args ns).0 (bound args ns).3) (λ ns t. id⊢ 𝓤 _) (λ ns. refl) (λ ns. id⊢ 𝓤 _) (λ ns ws. ws) (λ ns ws. id⊢ 𝓤 _) fit σ F s)
       (λ q.
       let f = q.7 in
-      so 𝓛 𝓜 load-in-symbol.routine args σ F q.1 _ _ _ q.2 (head_is q.6.0 ∙ ap (vint w8) f.0) (λ i. (bytes_at (p 0) sheet ∷ record_pieces writes writes (p 1) (p 2) (p 3) (f.1 i) (f.2 i) (f.3 i)) ++ lent_tables (p 4) (p 5) (p 6) (record { heads = f.4.0 i; nodes = f.4.1 i; sets = f.4.2 i })) (q.5, q.8.0, q.8.1, q.8.2))
+      so 𝓛 𝓜 (𝓡.env load-in-symbol.name) args σ F q.1 _ _ _ q.2 (head_is q.6.0 ∙ ap (vint w8) f.0) (λ i. (bytes_at (p 0) sheet ∷ record_pieces writes writes (p 1) (p 2) (p 3) (f.1 i) (f.2 i) (f.3 i)) ++ lent_tables (p 4) (p 5) (p 6) (record { heads = f.4.0 i; nodes = f.4.1 i; sets = f.4.2 i })) (q.5, q.8.0, q.8.1, q.8.2))
 
-  pub next_leaves : (r : Record) (told : List ℕ)
-      → Leaves 𝓛 𝓜 next-symbol.routine (to_next p r told) (vint w8 (number_for (next_on r))) (to_next p r (memory_after told_numbers (next_on r) told))
+  pub next_leaves : Wired 𝓡.env next-symbol.code → (r : Record) (told : List ℕ)
+      → Leaves 𝓛 𝓜 (𝓡.env next-symbol.name) (to_next p r told) (vint w8 (number_for (next_on r))) (to_next p r (memory_after told_numbers (next_on r) told))
   unfolding values_of value_of AllFit Fits lent_record lengths_of
-  next_leaves r told fit σ F s =
+  next_leaves wired r told fit σ F s =
       let args = to_next p r told in
       ∥∥₁_map
-      (said 𝓛 𝓜 next.signature next-symbol.routine (next.spec 𝓛 𝓜.mem 𝓡.run) (next-met.met 𝓤 𝓛 𝓜 𝓡) (next.ended).kept args (bound args) (λ ns. tt)
+      (said 𝓛 𝓜 𝓡 next.signature (𝓡.env next-symbol.name) (next.spec 𝓛 𝓜.mem 𝓡.returns) (next-met.met 𝓤 𝓛 𝓜 (strict 𝓤 H 𝓜 𝓡) wired) (next.ended).kept args (bound args) (λ ns. tt)
       (λ ns. next-reads.Learnt (bound args ns).0 (bound args ns).3) (λ ns t. id⊢ 𝓤 _) (λ ns. refl) (λ ns. id⊢ 𝓤 _) (λ ns ws. ws) (λ ns ws. id⊢ 𝓤 _) fit σ F s)
       (λ q.
       let f = q.7 in
-      so 𝓛 𝓜 next-symbol.routine args σ F q.1 _ _ _ q.2 (head_is q.6.0 ∙ ap (vint w8) f.0) (λ i. to_next p r (f.1 i)) (q.5, q.8.0, q.8.1, q.8.2))
+      so 𝓛 𝓜 (𝓡.env next-symbol.name) args σ F q.1 _ _ _ q.2 (head_is q.6.0 ∙ ap (vint w8) f.0) (λ i. to_next p r (f.1 i)) (q.5, q.8.0, q.8.1, q.8.2))
 
-  pub next_in_leaves : (r : Record) (told : List ℕ) (t : Tables)
-      → Leaves 𝓛 𝓜 next-in-symbol.routine (to_next_in p r told t) (vint w8 (number_for (next_on r))) (to_next_in p r (memory_after told_numbers (next_on r) told) (tables_after (sheet_in r) t))
+  pub next_in_leaves : Wired 𝓡.env next-in-symbol.code → (r : Record) (told : List ℕ) (t : Tables)
+      → Leaves 𝓛 𝓜 (𝓡.env next-in-symbol.name) (to_next_in p r told t) (vint w8 (number_for (next_on r))) (to_next_in p r (memory_after told_numbers (next_on r) told) (tables_after (sheet_in r) t))
   unfolding values_of value_of AllFit Fits lent_record lengths_of
-  next_in_leaves r told t fit σ F s =
+  next_in_leaves wired r told t fit σ F s =
       let args = to_next_in p r told t in
       ∥∥₁_map
-      (said 𝓛 𝓜 next-in.signature next-in-symbol.routine (next-in.spec 𝓛 𝓜.mem 𝓡.run) (next-in-met.met 𝓤 𝓛 𝓜 𝓡) (next-in.ended).kept args (bound args) (λ ns. tt)
+      (said 𝓛 𝓜 𝓡 next-in.signature (𝓡.env next-in-symbol.name) (next-in.spec 𝓛 𝓜.mem 𝓡.returns) (next-in-met.met 𝓤 𝓛 𝓜 (strict 𝓤 H 𝓜 𝓡) wired) (next-in.ended).kept args (bound args) (λ ns. tt)
       (λ ns. next-in-reads.Learnt (bound args ns).0 (bound args ns).3) (λ ns t. id⊢ 𝓤 _) (λ ns. refl) (λ ns. id⊢ 𝓤 _) (λ ns ws. ws) (λ ns ws. id⊢ 𝓤 _) fit σ F s)
       (λ q.
       let f = q.7 in
-      so 𝓛 𝓜 next-in-symbol.routine args σ F q.1 _ _ _ q.2 (head_is q.6.0 ∙ ap (vint w8) (f.0 (fit.1.1.1.1.0, fit.1.1.1.1.1.0, fit.1.1.1.1.1.1.0)).0) (λ i. to_next_in p r ((f.0 (fit.1.1.1.1.0, fit.1.1.1.1.1.0, fit.1.1.1.1.1.1.0)).1 i) (record { heads = f.1.0 i; nodes = f.1.1 i; sets = f.1.2 i })) (q.5, q.8.0, q.8.1, q.8.2))
+      so 𝓛 𝓜 (𝓡.env next-in-symbol.name) args σ F q.1 _ _ _ q.2 (head_is q.6.0 ∙ ap (vint w8) (f.0 (fit.1.1.1.1.0, fit.1.1.1.1.1.0, fit.1.1.1.1.1.1.0)).0) (λ i. to_next_in p r ((f.0 (fit.1.1.1.1.0, fit.1.1.1.1.1.0, fit.1.1.1.1.1.1.0)).1 i) (record { heads = f.1.0 i; nodes = f.1.1 i; sets = f.1.2 i })) (q.5, q.8.0, q.8.1, q.8.2))
 
-  pub report_leaves : (r : Record) (reply : ℕ)
-      → Leaves 𝓛 𝓜 report-symbol.routine (to_report p r reply) (vint w8 (number_for (report_on r reply))) (to_report p (record_after r reply) reply)
+  pub report_leaves : Wired 𝓡.env report-symbol.code → (r : Record) (reply : ℕ)
+      → Leaves 𝓛 𝓜 (𝓡.env report-symbol.name) (to_report p r reply) (vint w8 (number_for (report_on r reply))) (to_report p (record_after r reply) reply)
   unfolding values_of value_of AllFit Fits lent_record lengths_of
-  report_leaves r reply fit σ F s =
+  report_leaves wired r reply fit σ F s =
       let args = to_report p r reply in
       ∥∥₁_map
-      (said 𝓛 𝓜 report.signature report-symbol.routine (report.spec 𝓛 𝓜.mem 𝓡.run) (report-met.met 𝓤 𝓛 𝓜 𝓡) (report.ended).kept args (bound args) (λ ns. tt)
+      (said 𝓛 𝓜 𝓡 report.signature (𝓡.env report-symbol.name) (report.spec 𝓛 𝓜.mem 𝓡.returns) (report-met.met 𝓤 𝓛 𝓜 (strict 𝓤 H 𝓜 𝓡) wired) (report.ended).kept args (bound args) (λ ns. tt)
       (λ ns. report-reads.Learnt (bound args ns).0 (bound args ns).3) (λ ns t. id⊢ 𝓤 _) (λ ns. refl) (λ ns. id⊢ 𝓤 _) (λ ns ws. ws) (λ ns ws. id⊢ 𝓤 _) fit σ F s)
       (λ q.
       let f = q.7 in
-      so 𝓛 𝓜 report-symbol.routine args σ F q.1 _ _ _ q.2 (head_is q.6.0 ∙ ap (vint w8) f.0) (λ i. record_pieces reads writes (p 0) (p 1) (p 2) (kept_sheet r fit.0 reply i) (f.1 i) (f.2 i) ++ (number w8 reply ∷ [])) (q.5, q.8.0, q.8.1, q.8.2))
+      so 𝓛 𝓜 (𝓡.env report-symbol.name) args σ F q.1 _ _ _ q.2 (head_is q.6.0 ∙ ap (vint w8) f.0) (λ i. record_pieces reads writes (p 0) (p 1) (p 2) (kept_sheet r fit.0 reply i) (f.1 i) (f.2 i) ++ (number w8 reply ∷ [])) (q.5, q.8.0, q.8.1, q.8.2))
 
-  pub report_in_leaves : (r : Record) (reply : ℕ) (t : Tables)
-      → Leaves 𝓛 𝓜 report-in-symbol.routine (to_report_in p r reply t) (vint w8 (number_for (report_on r reply))) (to_report_in p (record_after r reply) reply (tables_after (sheet_in r) t))
+  pub report_in_leaves : Wired 𝓡.env report-in-symbol.code → (r : Record) (reply : ℕ) (t : Tables)
+      → Leaves 𝓛 𝓜 (𝓡.env report-in-symbol.name) (to_report_in p r reply t) (vint w8 (number_for (report_on r reply))) (to_report_in p (record_after r reply) reply (tables_after (sheet_in r) t))
   unfolding values_of value_of AllFit Fits lent_record lengths_of
-  report_in_leaves r reply t fit σ F s =
+  report_in_leaves wired r reply t fit σ F s =
       let args = to_report_in p r reply t in
       ∥∥₁_map
-      (said 𝓛 𝓜 report_in_law.signature report-in-symbol.routine (report_in_law.spec 𝓛 𝓜.mem 𝓡.run) (report-in-met.met 𝓤 𝓛 𝓜 𝓡) (report_in_law.ended).kept args (bound args) (λ ns. tt)
+      (said 𝓛 𝓜 𝓡 report_in_law.signature (𝓡.env report-in-symbol.name) (report_in_law.spec 𝓛 𝓜.mem 𝓡.returns) (report-in-met.met 𝓤 𝓛 𝓜 (strict 𝓤 H 𝓜 𝓡) wired) (report_in_law.ended).kept args (bound args) (λ ns. tt)
       (λ ns. report-in-reads.Learnt (bound args ns).0 (bound args ns).3) (λ ns t. id⊢ 𝓤 _) (λ ns. refl) (λ ns. id⊢ 𝓤 _) (λ ns ws. ws) (λ ns ws. id⊢ 𝓤 _) fit σ F s)
       (λ q.
       let f = q.7 in
-      so 𝓛 𝓜 report-in-symbol.routine args σ F q.1 _ _ _ q.2 (head_is q.6.0 ∙ ap (vint w8) (f.0 (fit.1.1.1.1.0, fit.1.1.1.1.1.0, fit.1.1.1.1.1.1.0)).0) (λ i. (record_pieces reads writes (p 0) (p 1) (p 2) (kept_sheet r fit.0 reply i) ((f.0 (fit.1.1.1.1.0, fit.1.1.1.1.1.0, fit.1.1.1.1.1.1.0)).1 i) ((f.0 (fit.1.1.1.1.0, fit.1.1.1.1.1.0, fit.1.1.1.1.1.1.0)).2 i) ++ (number w8 reply ∷ [])) ++ lent_tables (p 3) (p 4) (p 5) (record { heads = f.1.0 i; nodes = f.1.1 i; sets = f.1.2 i })) (q.5, q.8.0, q.8.1, q.8.2))
+      so 𝓛 𝓜 (𝓡.env report-in-symbol.name) args σ F q.1 _ _ _ q.2 (head_is q.6.0 ∙ ap (vint w8) (f.0 (fit.1.1.1.1.0, fit.1.1.1.1.1.0, fit.1.1.1.1.1.1.0)).0) (λ i. (record_pieces reads writes (p 0) (p 1) (p 2) (kept_sheet r fit.0 reply i) ((f.0 (fit.1.1.1.1.0, fit.1.1.1.1.1.0, fit.1.1.1.1.1.1.0)).1 i) ((f.0 (fit.1.1.1.1.0, fit.1.1.1.1.1.0, fit.1.1.1.1.1.1.0)).2 i) ++ (number w8 reply ∷ [])) ++ lent_tables (p 3) (p 4) (p 5) (record { heads = f.1.0 i; nodes = f.1.1 i; sets = f.1.2 i })) (q.5, q.8.0, q.8.1, q.8.2))
 
-  pub feed_leaves : (piece numbers begun : List ℕ) (t : Tables) (memo : List ℕ)
-      → Leaves 𝓛 𝓜 feed-symbol.routine (to_feed p piece numbers begun t memo) (vint w8 (flag_number (is_done (fed (lent_release numbers begun) piece)))) (to_feed p piece (release_numbers (fed (lent_release numbers begun) piece)) (fed (lent_release numbers begun) piece).begun.bytes (tables_after_all (read_by (lent_release numbers begun) piece) t) (cleared_all (read_by (lent_release numbers begun) piece) memo))
+  pub feed_leaves : Wired 𝓡.env feed-symbol.code → (piece numbers begun : List ℕ) (t : Tables) (memo : List ℕ)
+      → Leaves 𝓛 𝓜 (𝓡.env feed-symbol.name) (to_feed p piece numbers begun t memo) (vint w8 (flag_number (is_done (fed (lent_release numbers begun) piece)))) (to_feed p piece (release_numbers (fed (lent_release numbers begun) piece)) (fed (lent_release numbers begun) piece).begun.bytes (tables_after_all (read_by (lent_release numbers begun) piece) t) (cleared_all (read_by (lent_release numbers begun) piece) memo))
   unfolding values_of value_of AllFit Fits
-  feed_leaves piece numbers begun t memo fit σ F s =
+  feed_leaves wired piece numbers begun t memo fit σ F s =
       let args = to_feed p piece numbers begun t memo in
       ∥∥₁_map
-      (said 𝓛 𝓜 feed.signature feed-symbol.routine (feed.spec 𝓛 𝓜.mem 𝓡.run) (feed-met.met 𝓤 𝓛 𝓜 𝓡) (feed.ended).kept args (bound args) (λ ns. tt)
+      (said 𝓛 𝓜 𝓡 feed.signature (𝓡.env feed-symbol.name) (feed.spec 𝓛 𝓜.mem 𝓡.returns) (feed-met.met 𝓤 𝓛 𝓜 (strict 𝓤 H 𝓜 𝓡) wired) (feed.ended).kept args (bound args) (λ ns. tt)
       (λ ns. feed-reads.Learnt (bound args ns).0 (bound args ns).3) (λ ns t. id⊢ 𝓤 _) (λ ns. refl) (λ ns. id⊢ 𝓤 _) (λ ns ws. ws) (λ ns ws. id⊢ 𝓤 _) fit σ F s)
       (λ q.
       let f = q.7 in
       let g = f.0 (fit.1.1.1.0, fit.1.1.1.1.0, fit.1.1.1.1.1.0) in
-      so 𝓛 𝓜 feed-symbol.routine args σ F q.1 _ _ _ q.2 (head_is q.6.0 ∙ ap (vint w8) g.0) (λ i. to_feed p piece (g.1 i) (g.2 i) (record { heads = f.2.0 i; nodes = f.2.1 i; sets = f.2.2 i }) (f.1 i)) (q.5, q.8.0, q.8.1, q.8.2))
+      so 𝓛 𝓜 (𝓡.env feed-symbol.name) args σ F q.1 _ _ _ q.2 (head_is q.6.0 ∙ ap (vint w8) g.0) (λ i. to_feed p piece (g.1 i) (g.2 i) (record { heads = f.2.0 i; nodes = f.2.1 i; sets = f.2.2 i }) (f.1 i)) (q.5, q.8.0, q.8.1, q.8.2))
 
-  pub end_leaves : (numbers begun figures : List ℕ)
-      → Leaves 𝓛 𝓜 end-symbol.routine (to_end p numbers begun figures) (vunit) (to_end p numbers begun (figure_numbers (meant_by (ended (lent_release numbers begun)))))
+  pub end_leaves : Wired 𝓡.env end-symbol.code → (numbers begun figures : List ℕ)
+      → Leaves 𝓛 𝓜 (𝓡.env end-symbol.name) (to_end p numbers begun figures) (vunit) (to_end p numbers begun (figure_numbers (meant_by (ended (lent_release numbers begun)))))
   unfolding values_of value_of
-  end_leaves numbers begun figures fit σ F s =
+  end_leaves wired numbers begun figures fit σ F s =
       let args = to_end p numbers begun figures in
       ∥∥₁_map
-      (said 𝓛 𝓜 end.signature end-symbol.routine (end.spec 𝓛 𝓜.mem 𝓡.run) (end-met.met 𝓤 𝓛 𝓜 𝓡) (end.ended).kept args (bound args) (λ ns. tt)
+      (said 𝓛 𝓜 𝓡 end.signature (𝓡.env end-symbol.name) (end.spec 𝓛 𝓜.mem 𝓡.returns) (end-met.met 𝓤 𝓛 𝓜 (strict 𝓤 H 𝓜 𝓡) wired) (end.ended).kept args (bound args) (λ ns. tt)
       (λ ns. end_reads.Learnt (bound args ns).0 (bound args ns).3) (λ ns t. id⊢ 𝓤 _) (λ ns. refl) (λ ns. id⊢ 𝓤 _) (λ ns ws. ws) (λ ns ws. id⊢ 𝓤 _) fit σ F s)
       (λ q.
       let f = q.7 in
-      so 𝓛 𝓜 end-symbol.routine args σ F q.1 _ _ _ q.2 (head_is q.6) (λ i. to_end p numbers begun (f i)) (q.5, q.8.0, q.8.1, q.8.2))
+      so 𝓛 𝓜 (𝓡.env end-symbol.name) args σ F q.1 _ _ _ q.2 (head_is q.6) (λ i. to_end p numbers begun (f i)) (q.5, q.8.0, q.8.1, q.8.2))
 
-  pub line_leaves : (figures out : List ℕ)
-      → Leaves 𝓛 𝓜 line-symbol.routine (to_line p figures out) (vint w64 (length (numbers_line figures))) (to_line p figures (write out 0 (numbers_line figures)))
+  pub line_leaves : Wired 𝓡.env line-symbol.code → (figures out : List ℕ)
+      → Leaves 𝓛 𝓜 (𝓡.env line-symbol.name) (to_line p figures out) (vint w64 (length (numbers_line figures))) (to_line p figures (write out 0 (numbers_line figures)))
   unfolding values_of value_of
-  line_leaves figures out fit σ F s =
+  line_leaves wired figures out fit σ F s =
       let args = to_line p figures out in
       ∥∥₁_map
-      (said 𝓛 𝓜 line.signature line-symbol.routine (line.spec 𝓛 𝓜.mem 𝓡.run) (line-met.met 𝓤 𝓛 𝓜 𝓡) (line.ended).kept args (bound args) (λ ns. tt)
+      (said 𝓛 𝓜 𝓡 line.signature (𝓡.env line-symbol.name) (line.spec 𝓛 𝓜.mem 𝓡.returns) (line-met.met 𝓤 𝓛 𝓜 (strict 𝓤 H 𝓜 𝓡) wired) (line.ended).kept args (bound args) (λ ns. tt)
       (λ ns. line_reads_lem.Learnt (bound args ns).0 (bound args ns).3) (λ ns t. id⊢ 𝓤 _) (λ ns. refl) (λ ns. id⊢ 𝓤 _) (λ ns ws. ws) (λ ns ws. id⊢ 𝓤 _) fit σ F s)
       (λ q.
       let f = q.7 in
-      so 𝓛 𝓜 line-symbol.routine args σ F q.1 _ _ _ q.2 (head_is q.6.0 ∙ ap (vint w64) f.0) (λ i. to_line p figures (f.1 i)) (q.5, q.8.0, q.8.1, q.8.2))
+      so 𝓛 𝓜 (𝓡.env line-symbol.name) args σ F q.1 _ _ _ q.2 (head_is q.6.0 ∙ ap (vint w64) f.0) (λ i. to_line p figures (f.1 i)) (q.5, q.8.0, q.8.1, q.8.2))
 
   -- And the line has room.
-  pub line_within : (figures out : List ℕ) → AllFit (to_line p figures out) → (σ : Memory) (F : SProp 𝓤) → Satisfies 𝓤 H 𝓜 σ (sep 𝓤 (Owned 𝓤 H 𝓜 (to_line p figures out)) F) → ∥ (length (numbers_line figures) ≤ most_lines) ∥₁
+  pub line_within : Wired 𝓡.env line-symbol.code → (figures out : List ℕ) → AllFit (to_line p figures out) → (σ : Memory) (F : SProp 𝓤) → Satisfies 𝓤 H 𝓜 σ (sep 𝓤 (Owned 𝓤 H 𝓜 (to_line p figures out)) F) → ∥ (length (numbers_line figures) ≤ most_lines) ∥₁
   unfolding values_of value_of
-  line_within figures out fit σ F s =
+  line_within wired figures out fit σ F s =
       let args = to_line p figures out in
       ∥∥₁_map
-      (said 𝓛 𝓜 line.signature line-symbol.routine (line.spec 𝓛 𝓜.mem 𝓡.run) (line-met.met 𝓤 𝓛 𝓜 𝓡) (line.ended).kept args (bound args) (λ ns. tt)
+      (said 𝓛 𝓜 𝓡 line.signature (𝓡.env line-symbol.name) (line.spec 𝓛 𝓜.mem 𝓡.returns) (line-met.met 𝓤 𝓛 𝓜 (strict 𝓤 H 𝓜 𝓡) wired) (line.ended).kept args (bound args) (λ ns. tt)
       (λ ns. line_reads_lem.Learnt (bound args ns).0 (bound args ns).3) (λ ns t. id⊢ 𝓤 _) (λ ns. refl) (λ ns. id⊢ 𝓤 _) (λ ns ws. ws) (λ ns ws. id⊢ 𝓤 _) fit σ F s) (λ q. subst (λ (k : ℕ). k ≤ most_lines) q.7.0 q.7.2)
