@@ -9,7 +9,7 @@ use lib.Dec.{ltb}
 use lib.ListN.{length}
 use borrow.Author.Tests.{lt-ltb, le-ltb, le-leb, lt-leb}
 use Rattle.lists.specs.Lists.{if◌then◌else◌}
-use Rattle.format.specs.Syntax.{Objective, Epistemic, known, not_known, all_of, any_of, Action, change, probe, end}
+use Rattle.format.specs.Syntax.{Objective, Epistemic, known, not_known, all_of, any_of, Action, change, probe}
 use Rattle.format.specs.Format.{Read, got, fault, Reader, and_then, ◌>>=◌, mapped, give, refuse, check, field, most_bytes, deepest, fact_number, objective_behind, objective, EpistemicNode, known_node, not_known_node, all_of_node, any_of_node, epistemic_node, epistemic_behind, epistemic, objectives, changes, probes, kind, reply_total, theory_over, replies_over, action_behind, action, action_list, ProgramNode, program_node, program_behind, program_within, of_sheet}
 use Rattle.format.proofs.FormatLaws.{Behind, got_behind, behind_got, behind_fault}
 

@@ -1,5 +1,5 @@
 -- The method: what filling from a piece leaves, for the contracts of inner functions. An auditor of the promises needs none of it.
-use Rattle.std.specs.Prelude.{◌≡◌, ℕ, ◌+◌, ◌-◌, ◌≤◌, ◌⊎◌, List, ◌++◌, length, take, drop}
+use Rattle.std.specs.Prelude.{◌≡◌, ℕ, ◌-◌, ◌≤◌, ◌⊎◌, List, ◌++◌, length, take, drop}
 use Rattle.release.specs.declared.framing.Begun.{Begun}
 use Rattle.release.specs.declared.framing.Filled.{Filled}
 use Rattle.release.specs.Framing.{first_of, most_begun, size_of}

@@ -1,5 +1,5 @@
 -- The search over the tables of an accepted sheet finds what the histories of runs that follow the routine say. Assumes nothing.
-use Rattle.std.proofs.Common.{◌≡◌, ℕ, zero, suc, ◌+◌, ◌≤◌, Bool, true, false, not, ◌&&◌, eqb, ltb, ◌⊎◌, List, [], ◌∷◌, ◌++◌, length, sym, refl, ap, ◌∙◌, subst, ⊎_elim, append_assoc, append-nil, arith, length-append, le-ltb, lt-ltb, eqb-true}
+use Rattle.std.proofs.Common.{◌≡◌, ℕ, zero, suc, ◌+◌, ◌≤◌, Bool, true, false, not, ◌&&◌, eqb, ltb, List, [], ◌∷◌, ◌++◌, length, sym, refl, ap, ◌∙◌, subst, ⊎_elim, append_assoc, append-nil, arith, length-append, le-ltb, lt-ltb, eqb-true}
 use mathlib.Core.List.{flat_map, Memᴰ}
 use borrow.Author.Tests.{eqb-false}
 use Rattle.lists.specs.Lists.{if◌then◌else◌, below, keep, up_to, nonempty, Sorted, Before}

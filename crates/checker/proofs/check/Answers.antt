@@ -1,6 +1,5 @@
 -- `checker::check` meets its contract: its tables have the lengths of their types. Assumes nothing.
 use Rattle.routine.proofs.MemoryLaws.{fresh_sized}
-use borrow.Author.Rules.{rules}
 use Rattle.checker.proofs.check.Goals as goal
 
 pub returns : goal.returns

@@ -1,6 +1,5 @@
 -- `checker::check_in` meets its contract: the sheet is prepared in the lent tables, and the trace is judged by them. Assumes nothing.
 use mathlib.Core.Path.{sym, ap, ◌∙◌}
-use borrow.Author.Rules.{rules}
 use Rattle.routine.specs.Tables.{prepared_of}
 use Rattle.checker.specs.Answers.{answer_of}
 use Rattle.checker.proofs.CheckLaws.{refused_checked, ready_checked}

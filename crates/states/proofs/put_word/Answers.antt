@@ -1,7 +1,6 @@
 -- `states::put_word` meets its contract. Assumes nothing.
 use mathlib.Core.Path.{sym}
 use lib.Seq.{set_out}
-use borrow.Author.Rules.{rules}
 use Rattle.states.proofs.put_word.Goals as goal
 
 pub returns-else-i-words : goal.returns-else-i-words

@@ -1,16 +1,11 @@
 -- `progression::place::all_hold` and `one_holds` meet their contracts. Each loop's invariant: the parts from the first node on hold as those from node i on. The measure
 -- of the recursion is the levels left. Assumes nothing.
-use Prim.Native.Nat.{ℕ, ◌-◌, ◌<◌}
-use mathlib.Core.Path.{◌≡◌, sym, subst, ◌∙◌}
-use mathlib.Core.Bool.{Bool, true, false}
-use native.Mathlib.Omega.{arith}
-use borrow.Author.Rules.{rules}
-use borrow.Author.Tests.{not-true, not-false}
+use Prim.Native.Nat.{◌-◌}
+use mathlib.Core.Path.{◌≡◌}
+use mathlib.Core.Bool.{true, false}
 use Rattle.states.specs.Sets.{of_words}
-use Rattle.routine.specs.declared.memory.Node.{Node}
-use Rattle.routine.specs.Memory.{Small}
 use Rattle.progression.specs.Machine.{known_by, parts_hold}
-use Rattle.progression.proofs.MachineLaws.{parts_none, parts_to_law, parts_left, atom_decides, atom_passes, alike_passes, other_decides, other_passes, none_stands, none_left, join_inside}
+use Rattle.progression.proofs.MachineLaws.{parts_left}
 use Rattle.progression.proofs.place.+all_hold_one_holds.Given as goal
 
 abbrev pub invariant-all_hold-loop-i : goal.invariant-all_hold-loop-i

@@ -1,7 +1,6 @@
 -- `progression::place::atom_holds` meets its contract. Assumes nothing.
 use mathlib.Core.Path.{ap, ◌∙◌}
 use mathlib.Core.Bool.{Bool, beq}
-use borrow.Author.Rules.{rules}
 use Rattle.states.specs.declared.States.{States}
 use Rattle.states.specs.Sets.{of_words}
 use Rattle.progression.specs.Machine.{known_by}

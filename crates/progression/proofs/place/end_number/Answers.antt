@@ -1,10 +1,7 @@
 -- `place::end_number` meets its contract. The loop's invariant: what the nodes that are left say is what all say. The measure is their number. Assumes nothing.
-use Prim.Native.Nat.{◌-◌, ◌≤◌}
-use mathlib.Core.Path.{◌≡◌, refl, sym, ◌∙◌}
+use mathlib.Core.Path.{refl, sym, ◌∙◌}
 use native.Mathlib.Omega.{arith}
-use borrow.Author.Rules.{rules}
-use Rattle.routine.specs.Memory.{node_most, node_at}
-use Rattle.progression.specs.Machine.{end_from, end_number}
+use Rattle.progression.specs.Machine.{end_number}
 use Rattle.progression.proofs.NumberLaws.{end_here, end_later, end_none}
 use borrow.Enum.Refused.{opened}
 use Rattle.progression.proofs.place.end_number.Goals as goal

@@ -2,7 +2,6 @@
 use Prim.Native.Nat.{◌<◌}
 use mathlib.Core.Path.{sym, subst, ◌∙◌}
 use native.Mathlib.Omega.{arith}
-use borrow.Author.Rules.{rules}
 use Rattle.routine.specs.Memory.{Small, node_most}
 use Rattle.progression.proofs.MachineLaws.{atom_holds_law, parts_told, join_inside, no_formula}
 use borrow.Enum.Refused.{opened}

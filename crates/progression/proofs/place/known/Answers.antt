@@ -1,6 +1,5 @@
 -- `progression::known` meets its contract: what is outside the other set is empty just where every state is in it. Assumes nothing.
 use mathlib.Core.Path.{◌∙◌}
-use borrow.Author.Rules.{rules}
 use Rattle.progression.proofs.MachineLaws.{known_empty}
 use Rattle.progression.proofs.place.known.Goals as goal
 

@@ -1,6 +1,5 @@
 -- `place::position` meets its contract: an action node says its number, and the first end that of all. Assumes nothing.
 use mathlib.Core.Path.{◌∙◌}
-use borrow.Author.Rules.{rules}
 use Rattle.progression.proofs.NumberLaws.{act_position, end_position, number_act, number_none}
 use borrow.Enum.Refused.{opened}
 use Rattle.progression.proofs.place.position.Goals as goal

@@ -2,7 +2,6 @@
 use mathlib.Core.Path.{ap, ◌∙◌}
 use Rattle.states.specs.declared.States.{States}
 use Rattle.progression.specs.Machine.{passed_over, passed_by}
-use borrow.Author.Rules.{rules}
 use Rattle.progression.proofs.reply.pass.Goals as goal
 
 pub returns : goal.returns

@@ -1,9 +1,8 @@
 -- `progression::pass_word` meets its contract: state by state, the lowest first. Assumes nothing.
 use mathlib.Core.Path.{◌≡◌}
 use native.Mathlib.Omega.{arith}
-use borrow.Author.Rules.{rules}
 use Rattle.states.proofs.BitLaws.{cleared_less}
-use Rattle.progression.proofs.PassLaws.{Evaluated, none_evaluated, all_kept, all_counted, lowest_fits, few_before, lowest_kept, lowest_dropped}
+use Rattle.progression.proofs.PassLaws.{none_evaluated, all_kept, all_counted, lowest_fits, few_before, lowest_kept, lowest_dropped}
 use Rattle.progression.proofs.reply.pass_word.Goals as goal
 use Rattle.progression.proofs.reply.pass_word.Goals.{then-holds, else-holds}
 

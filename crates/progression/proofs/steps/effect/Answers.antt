@@ -1,6 +1,5 @@
 -- `progression::effect` meets its contract: the rows gathered, or the set as it is. Assumes nothing.
 use mathlib.Core.Path.{◌∙◌}
-use borrow.Author.Rules.{rules}
 use Rattle.progression.proofs.GatherLaws.{read_rows, read_same}
 use Rattle.progression.proofs.steps.effect.Goals as goal
 

@@ -1,6 +1,5 @@
 -- `progression::gather` meets its contract: the four words gathered. Assumes nothing.
 use mathlib.Core.Path.{◌∙◌}
-use borrow.Author.Rules.{rules}
 use Rattle.progression.proofs.GatherLaws.{gather_words}
 use Rattle.progression.proofs.steps.gather.Goals as goal
 

@@ -1,13 +1,10 @@
 -- `progression::gather_word` meets its contract. The loop's invariant: what is gathered and what the bits that are left give is the whole. The measure is the word that is left. Assumes nothing.
 use Prim.Native.Nat.{◌^◌, ◌<◌}
-use mathlib.Core.Path.{◌≡◌, sym, subst, ◌∙◌}
-use mathlib.Core.Bool.{false, ◌||◌}
-use native.Mathlib.Omega.{arith}
-use borrow.Author.Rules.{rules}
+use mathlib.Core.Path.{◌≡◌}
+use mathlib.Core.Bool.{◌||◌}
 use Rattle.states.specs.Sets.{member, set_of}
-use Rattle.states.proofs.BitLaws.{lowest_set, cleared_less}
-use Rattle.states.proofs.SetLaws.{Fitting, fitting_set_of}
-use Rattle.progression.proofs.GatherLaws.{in_some, gather_start, gather_more, gather_end}
+use Rattle.states.proofs.SetLaws.{Fitting}
+use Rattle.progression.proofs.GatherLaws.{in_some}
 use Rattle.progression.proofs.steps.gather_word.Given as goal
 
 abbrev pub invariant-loop-left : goal.invariant-loop-left

@@ -1,7 +1,6 @@
 -- `progression::reply_states` meets its contract: the reply's table, if the action has the reply. Assumes nothing.
 use mathlib.Core.Path.{◌∙◌}
 use native.Mathlib.Omega.{arith}
-use borrow.Author.Rules.{rules}
 use Rattle.progression.proofs.GatherLaws.{read_nowhere, read_table}
 use Rattle.progression.proofs.steps.reply_states.Goals as goal
 

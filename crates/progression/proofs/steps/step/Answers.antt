@@ -1,6 +1,5 @@
 -- `progression::step` meets its contract: the effect, and of its states those that the reply keeps. Assumes nothing.
 use mathlib.Core.Path.{◌∙◌}
-use borrow.Author.Rules.{rules}
 use Rattle.progression.proofs.GatherLaws.{step_halves}
 use Rattle.progression.proofs.steps.step.Goals as goal
 

@@ -4,7 +4,6 @@ use Rattle.format.specs.Format.{mapped}
 use Rattle.format.proofs.ReaderLaws.{replies_refused, replies_counted}
 use Rattle.reader.specs.Answers.{set_read, total_read}
 use Rattle.reader.specs.Method.{some_holds}
-use borrow.Author.Rules.{rules}
 use Rattle.reader.proofs.actions.evaluate_replies.Goals as goal
 
 pub returns-in-Refused : goal.returns-in-Refused

@@ -1,13 +1,8 @@
 -- `reader::actions::evaluate_some` meets its contract. The loop's invariant: the set and the formulas that are left tell what all of them tell. The measure is how many are left. Assumes nothing.
-use Prim.Native.Nat.{◌-◌, ◌≤◌}
-use mathlib.Core.Path.{◌≡◌, sym, ap, ◌∙◌}
+use mathlib.Core.Path.{sym, ap, ◌∙◌}
 use native.Mathlib.Omega.{arith}
-use borrow.Author.Rules.{rules}
-use Rattle.states.specs.Sets.{member, set_of}
-use Rattle.format.specs.Format.{mapped, objectives}
-use Rattle.reader.proofs.TestLaws.{joined_to, set_own, some_start, some_more, some_refused, some_end}
+use Rattle.reader.proofs.TestLaws.{set_own, some_start, some_more, some_refused, some_end}
 use Rattle.reader.specs.Answers.{set_read, in_theory}
-use Rattle.reader.specs.Method.{some_holds}
 use Rattle.reader.proofs.actions.evaluate_some.Goals as goal
 
 pub loop-i-init : goal.loop-i-init

@@ -1,12 +1,9 @@
 -- `reader::actions::evaluate_some` meets its contract. The loop's invariant: the set and the formulas that are left tell what all of them tell. The measure is how many are left. Assumes nothing.
 use Prim.Native.Nat.{◌-◌, ◌≤◌}
-use mathlib.Core.Path.{◌≡◌, sym, ap, ◌∙◌}
-use native.Mathlib.Omega.{arith}
-use borrow.Author.Rules.{rules}
+use mathlib.Core.Path.{◌≡◌}
 use Rattle.states.specs.Sets.{member, set_of}
 use Rattle.format.specs.Format.{mapped, objectives}
-use Rattle.reader.proofs.TestLaws.{joined_to, set_own, some_start, some_more, some_refused, some_end}
-use Rattle.reader.specs.Answers.{set_read, in_theory}
+use Rattle.reader.proofs.TestLaws.{joined_to}
 use Rattle.reader.specs.Method.{some_holds}
 use Rattle.reader.proofs.actions.evaluate_some.Given as goal
 

@@ -1,16 +1,11 @@
 -- `reader::actions::leads_on` meets its contract. The outer loop's invariant: each state before `old` has a next state. The inner loop's: no next state before `new` is in the row. The measures are the states that are left. Assumes nothing.
-use Prim.Native.Nat.{ℕ, ◌+◌, ◌-◌, ◌%◌, ◌≤◌, ◌<◌}
-use mathlib.Core.Path.{◌≡◌, refl, sym, ap, subst, ◌∙◌}
-use mathlib.Core.Bool.{true, false}
-use native.Mathlib.Omega.{arith}
-use borrow.Author.Rules.{rules}
-use borrow.Author.Tests.{not-true, not-false}
+use Prim.Native.Nat.{ℕ, ◌-◌, ◌≤◌, ◌<◌}
+use mathlib.Core.Path.{◌≡◌}
+use mathlib.Core.Bool.{false}
 use Rattle.states.specs.Sets.{member}
 use Rattle.format.specs.Syntax.{Objective}
 use Rattle.format.specs.Format.{got, theory_over}
-use Rattle.reader.proofs.TestLaws.{Tried, tried_first, tried_outside, tried_found, tried_stuck, tried_all, none_more}
-use Rattle.reader.specs.Answers.{states_in}
-use Rattle.reader.specs.declared.formula.View.{View}
+use Rattle.reader.proofs.TestLaws.{Tried}
 use Rattle.reader.proofs.actions.leads_on.Given as goal
 
 abbrev pub invariant-loop-new : goal.invariant-loop-new

@@ -6,7 +6,6 @@ use Rattle.format.proofs.ReaderLaws.{also_refused, action_refused, action_change
 use Rattle.reader.specs.Answers.{kind_read, set_read, in_theory}
 use Rattle.reader.specs.Method.{end_read, ending, some_holds}
 use Rattle.reader.proofs.EndLaws.{also_ends, ends_mapped}
-use borrow.Author.Rules.{rules}
 use Rattle.reader.proofs.actions.read_action.Goals as goal
 
 pub returns-in-Refused : goal.returns-in-Refused

@@ -1,9 +1,8 @@
 -- `reader::actions::read_actions` meets its contract. The loop's invariant: the actions that are left end where all of them end. The measure is how many are left. Assumes nothing.
-use Prim.Native.Nat.{ℕ, ◌-◌, ◌≤◌}
-use mathlib.Core.Path.{◌≡◌, sym, ap, ◌∙◌}
+use Prim.Native.Nat.{ℕ}
+use mathlib.Core.Path.{sym, ap, ◌∙◌}
 use native.Mathlib.Omega.{arith}
 use native.Mathlib.Nat.{sub-zero}
-use borrow.Author.Rules.{rules}
 use Rattle.format.specs.Format.{mapped, action_list}
 use Rattle.reader.proofs.TestLaws.{list_more, list_refused, list_end}
 use Rattle.reader.specs.Method.{end_read, ending}

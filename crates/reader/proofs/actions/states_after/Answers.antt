@@ -1,6 +1,5 @@
 -- `reader::actions::states_after` meets its contract: the set that the theory gives in its view. Assumes nothing.
 use mathlib.Core.Path.{sym, ap, ◌∙◌}
-use borrow.Author.Rules.{rules}
 use Rattle.format.proofs.ReaderLaws.{made_value, never_refused}
 use Rattle.reader.specs.Answers.{set_read, in_theory, states_in}
 use Rattle.reader.specs.declared.formula.View.{View}

@@ -4,7 +4,6 @@ use Rattle.states.specs.Sets.{members}
 use Rattle.reader.specs.Answers.{kind_read}
 use Rattle.reader.specs.Method.{passed_to}
 use Rattle.reader.proofs.TestLaws.{kind_tested, change_tested, probe_tested}
-use borrow.Author.Rules.{rules}
 use Rattle.reader.proofs.actions.test_action.Goals as goal
 
 pub returns-in-Refused : goal.returns-in-Refused

@@ -1,14 +1,8 @@
 -- `reader::actions::test_actions` meets its contract. The loop's invariant: the tests of the actions that are left decide as those of all. The measure is how many are left. Assumes nothing.
-use Prim.Native.Nat.{ℕ, ◌-◌, ◌≤◌}
-use mathlib.Core.Path.{◌≡◌}
-use mathlib.Core.List.{List}
 use native.Mathlib.Omega.{arith}
-use borrow.Author.Rules.{rules}
 use Rattle.states.specs.Sets.{members}
-use Rattle.format.specs.Syntax.{Action}
-use Rattle.format.specs.Format.{got, action_list}
 use Rattle.reader.specs.Method.{passed_to}
-use Rattle.reader.proofs.TestLaws.{Left, left_all, left_more, left_fails, left_none}
+use Rattle.reader.proofs.TestLaws.{left_all, left_more, left_fails, left_none}
 use Rattle.reader.proofs.actions.test_actions.Goals as goal
 
 pub loop-i-init : goal.loop-i-init

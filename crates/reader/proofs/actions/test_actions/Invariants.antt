@@ -2,13 +2,10 @@
 use Prim.Native.Nat.{ℕ, ◌-◌, ◌≤◌}
 use mathlib.Core.Path.{◌≡◌}
 use mathlib.Core.List.{List}
-use native.Mathlib.Omega.{arith}
-use borrow.Author.Rules.{rules}
 use Rattle.states.specs.Sets.{members}
 use Rattle.format.specs.Syntax.{Action}
 use Rattle.format.specs.Format.{got, action_list}
-use Rattle.reader.specs.Method.{passed_to}
-use Rattle.reader.proofs.TestLaws.{Left, left_all, left_more, left_fails, left_none}
+use Rattle.reader.proofs.TestLaws.{Left}
 use Rattle.reader.proofs.actions.test_actions.Given as goal
 
 abbrev pub invariant-loop-i : goal.invariant-loop-i

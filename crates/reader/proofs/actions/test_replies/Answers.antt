@@ -7,7 +7,6 @@ use Rattle.format.proofs.ReaderLaws.{mapped_got, mapped_fault}
 use Rattle.reader.specs.Answers.{number_of, set_read}
 use Rattle.reader.specs.Method.{passed_to, some_holds}
 use Rattle.reader.proofs.TestLaws.{tested_got, tested_fault, covered, test_passes, test_fails}
-use borrow.Author.Rules.{rules}
 use Rattle.reader.proofs.actions.test_replies.Goals as goal
 
 pub returns-then-is_empty : goal.returns-then-is_empty

@@ -7,7 +7,6 @@ use Rattle.format.proofs.ReaderLaws.{mapped_got, mapped_fault}
 use Rattle.reader.specs.Answers.{number_of, in_theory}
 use Rattle.reader.specs.Method.{end_read, passed_to, ending}
 use Rattle.reader.proofs.TestLaws.{tested_got, tested_fault, test_passes, test_fails}
-use borrow.Author.Rules.{rules}
 use Rattle.reader.proofs.actions.test_theory.Goals as goal
 
 pub returns-then-leads_on : goal.returns-then-leads_on

@@ -1,6 +1,5 @@
 -- `reader::bits` meets its contract: the bits of a field are cut out of the window at its first byte. Assumes nothing.
 use Rattle.reader.proofs.BitLaws.{window_field}
-use borrow.Author.Rules.{rules}
 use Rattle.reader.proofs.bits.bits.Goals as goal
 
 pub returns : goal.returns

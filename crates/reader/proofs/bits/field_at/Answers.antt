@@ -6,7 +6,6 @@ use borrow.Author.Tests.{le-leb, lt-leb}
 use Rattle.lists.specs.Lists.{if◌then◌else◌}
 use Rattle.format.specs.Format.{field}
 use Rattle.reader.specs.Method.{field_read}
-use borrow.Author.Rules.{rules}
 use Rattle.reader.proofs.bits.field_at.Goals as goal
 
 pub returns-then-end-k : goal.returns-then-end-k

@@ -4,7 +4,6 @@ use Prim.Native.Nat.{ℕ, ◌+◌, ◌-◌, ◌*◌, ◌/◌, ◌%◌, ◌^◌}
 use native.Mathlib.Omega.{arith}
 use lib.ListN.{get_or, get_or-eq_default}
 use Rattle.reader.proofs.BitLaws.{window_bits}
-use borrow.Author.Rules.{rules}
 use Rattle.reader.proofs.bits.window.Goals as goal
 
 pub overflow_mul-high : goal.overflow_mul-high

@@ -1,8 +1,6 @@
 -- `reader::formula::read_epistemic` meets its contract: each return by the law of the first node that led there. The measure is the levels left. Assumes nothing.
-use borrow.Author.Rules.{rules}
 use mathlib.Core.Path.{◌≡◌, sym, ap, ◌∙◌}
-use mathlib.Core.Logic.{◌⊎◌, ⊎_elim, inl, inr}
-use Prim.Native.Nat.{ℕ, ◌<◌}
+use mathlib.Core.Logic.{◌⊎◌, inl, inr}
 use Rattle.format.specs.Format.{got, mapped, all_of_node, any_of_node, epistemic_node}
 use Rattle.format.proofs.ReaderLaws.{epistemic_none}
 use Rattle.reader.specs.Answers.{number_of, epistemic_node_read, in_theory}

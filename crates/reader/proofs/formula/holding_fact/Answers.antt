@@ -4,7 +4,6 @@ use Prim.Native.Nat.{ℕ, suc, ◌≤◌, ◌<◌}
 use native.Mathlib.Omega.{arith}
 use Rattle.states.specs.Sets.{set_of}
 use Rattle.format.specs.Truth.{fact_in}
-use borrow.Author.Rules.{rules}
 use Rattle.reader.proofs.formula.holding_fact.Goals as goal
 
 -- A number from k on that isn't k is past it.

@@ -1,6 +1,5 @@
 -- `reader::is_theory` meets its contract, case by case. Assumes nothing.
 use Rattle.reader.specs.Answers.{in_theory}
-use borrow.Author.Rules.{rules}
 use Rattle.reader.proofs.formula.is_theory.Goals as goal
 
 pub returns-in-States : goal.returns-in-States

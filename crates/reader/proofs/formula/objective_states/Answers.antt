@@ -4,7 +4,6 @@ use native.Mathlib.Omega.{arith}
 use Rattle.format.specs.Format.{mapped, objective}
 use Rattle.format.proofs.ReaderLaws.{sheet_short, sheet_long}
 use Rattle.reader.specs.Answers.{number_of, set_read, in_theory, states_in}
-use borrow.Author.Rules.{rules}
 use Rattle.reader.proofs.formula.objective_states.Goals as goal
 
 pub returns-then-bytes-gt-BYTES : goal.returns-then-bytes-gt-BYTES

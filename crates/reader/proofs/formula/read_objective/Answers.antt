@@ -4,7 +4,6 @@ use Rattle.format.specs.Format.{mapped, objective}
 use Rattle.reader.proofs.EndLaws.{ends_mapped}
 use Rattle.reader.specs.Answers.{number_of, set_read, in_theory, states_in}
 use Rattle.reader.specs.Method.{end_read, ending}
-use borrow.Author.Rules.{rules}
 use Rattle.reader.proofs.formula.read_objective.Goals as goal
 
 pub returns-in-Refused : goal.returns-in-Refused

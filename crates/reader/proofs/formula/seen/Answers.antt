@@ -7,7 +7,6 @@ use Rattle.reader.specs.declared.formula.View.{View}
 use Rattle.format.specs.Truth.{fact_in, truth}
 use Rattle.reader.specs.Answers.{states_in}
 use Rattle.reader.specs.Method.{fact_of}
-use borrow.Author.Rules.{rules}
 use Rattle.reader.proofs.formula.seen.Goals as goal
 
 -- Outside a theory a fact is the same as a new one.

@@ -1,14 +1,11 @@
 -- `reader::headers::header` meets its contract: each return by the law of its case (FieldLaws of `format`). Assumes nothing.
-use mathlib.Core.Path.{◌≡◌, sym, ap, ◌∙◌}
-use mathlib.Core.Bool.{true}
+use mathlib.Core.Path.{sym, ap, ◌∙◌}
 use native.Mathlib.Omega.{arith}
-use borrow.Author.Tests.{not-true, not-false}
-use Rattle.format.specs.Format.{got, mapped, field, is_edition, header}
+use Rattle.format.specs.Format.{mapped, is_edition, header}
 use Rattle.format.proofs.FieldLaws.{one_to_eight, below_one, above_eight, edition_cut, edition_out, facts_cut, facts_out, header_goes_on}
 use Rattle.format.proofs.ReaderLaws.{sheet_short, sheet_long}
 use Rattle.reader.specs.Answers.{number_of, spaced, header_is_read}
 use Rattle.reader.specs.Method.{field_read}
-use borrow.Author.Rules.{rules}
 use Rattle.reader.proofs.headers.header.Goals as goal
 
 pub returns-then-bytes-gt-BYTES : goal.returns-then-bytes-gt-BYTES

@@ -6,7 +6,6 @@ use Rattle.format.proofs.ReaderLaws.{mapped_got, mapped_fault}
 use Rattle.reader.proofs.HeaderLaws.{header_spaced}
 use Rattle.reader.specs.Answers.{number_of, set_read, space_set, spaced, kept_of, header_is_read}
 use Rattle.reader.specs.Method.{field_read}
-use borrow.Author.Rules.{rules}
 use Rattle.reader.proofs.headers.header_behind.Goals as goal
 
 pub returns-in-Refused : goal.returns-in-Refused

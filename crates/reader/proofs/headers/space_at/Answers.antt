@@ -2,7 +2,6 @@
 use mathlib.Core.Path.{sym, ap, ◌∙◌}
 use Rattle.reader.proofs.HeaderLaws.{space_all, space_refused, space_read}
 use Rattle.reader.specs.Answers.{set_read, in_theory}
-use borrow.Author.Rules.{rules}
 use Rattle.reader.proofs.headers.space_at.Goals as goal
 
 pub returns-then-edition-ne-EDITION_2 : goal.returns-then-edition-ne-EDITION_2

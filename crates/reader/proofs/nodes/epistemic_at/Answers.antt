@@ -5,7 +5,6 @@ use borrow.Author.Tests.{eq-eqb, ne_eqb}
 use Rattle.format.proofs.FieldLaws.{epistemic_cut, known_first, not_known_first, all_of_first, any_of_first}
 use Rattle.reader.specs.Answers.{number_of, epistemic_node_read}
 use Rattle.reader.specs.Method.{field_read}
-use borrow.Author.Rules.{rules}
 use Rattle.reader.proofs.nodes.epistemic_at.Goals as goal
 
 pub returns-in_default : goal.returns-in_default

@@ -4,7 +4,6 @@ use borrow.Author.Tests.{eq-eqb, ne_eqb}
 use Rattle.format.proofs.FieldLaws.{kind_cut, kind_change, kind_probe}
 use Rattle.reader.specs.Answers.{number_of, kind_read}
 use Rattle.reader.specs.Method.{field_read}
-use borrow.Author.Rules.{rules}
 use Rattle.reader.proofs.nodes.kind_at.Goals as goal
 
 pub returns-in_default : goal.returns-in_default

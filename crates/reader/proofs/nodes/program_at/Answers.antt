@@ -4,7 +4,6 @@ use borrow.Author.Tests.{eq-eqb, ne_eqb}
 use Rattle.format.proofs.FieldLaws.{program_cut, end_first, act_many, number_cut, act_first, branch_many, branch_first, loop_first}
 use Rattle.reader.specs.Answers.{number_of, program_node_read}
 use Rattle.reader.specs.Method.{field_read}
-use borrow.Author.Rules.{rules}
 use Rattle.reader.proofs.nodes.program_at.Goals as goal
 
 pub returns-in_default : goal.returns-in_default

@@ -4,7 +4,6 @@ use native.Mathlib.Omega.{arith}
 use Rattle.format.specs.Format.{reply_total}
 use Rattle.format.proofs.ReaderLaws.{sheet_short, sheet_long}
 use Rattle.reader.specs.Answers.{number_of, total_read}
-use borrow.Author.Rules.{rules}
 use Rattle.reader.proofs.nodes.reply_total.Goals as goal
 
 pub returns-then-bytes-gt-BYTES : goal.returns-then-bytes-gt-BYTES

@@ -3,7 +3,6 @@ use mathlib.Core.Path.{sym, ap, ◌∙◌}
 use Rattle.format.proofs.FieldLaws.{one_to_eight, below_one, above_eight, total_cut, total_out, total_in}
 use Rattle.reader.specs.Answers.{number_of, total_read}
 use Rattle.reader.specs.Method.{field_read}
-use borrow.Author.Rules.{rules}
 use Rattle.reader.proofs.nodes.total_at.Goals as goal
 
 pub returns-in_default : goal.returns-in_default

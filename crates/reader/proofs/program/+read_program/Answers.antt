@@ -1,8 +1,7 @@
 -- `reader::program::read_program` meets its contract, by recursion on the levels left. Assumes nothing.
-use borrow.Author.Rules.{rules}
 use mathlib.Core.Path.{sym, ap, ◌∙◌}
 use native.Mathlib.Omega.{arith}
-use Prim.Native.Nat.{ℕ, ◌-◌, ◌<◌}
+use Prim.Native.Nat.{◌-◌}
 use Rattle.format.specs.Format.{mapped, program_within}
 use Rattle.format.proofs.FormatLaws.{node_fits}
 use Rattle.format.proofs.ReaderLaws.{program_none}

@@ -1,6 +1,5 @@
 -- `reader::number` meets its contract, case by case. Assumes nothing.
 use Rattle.reader.specs.Answers.{number_of}
-use borrow.Author.Rules.{rules}
 use Rattle.reader.proofs.refusal.number.Goals as goal
 
 pub returns-in-Length : goal.returns-in-Length

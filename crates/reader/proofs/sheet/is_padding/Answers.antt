@@ -3,7 +3,6 @@ use mathlib.Core.Path.{sym, ap, ◌∙◌}
 use Prim.Native.Nat.{ℕ}
 use lib.Dec.{eqb}
 use Rattle.reader.proofs.BodyLaws.{padding_none, padding_few, padding_many}
-use borrow.Author.Rules.{rules}
 use Rattle.reader.proofs.sheet.is_padding.Goals as goal
 
 pub returns-then-end-at : goal.returns-then-end-at

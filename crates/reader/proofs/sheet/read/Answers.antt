@@ -1,9 +1,7 @@
 -- `reader::sheet::read` meets its contract: the header, the fields behind it and the tests behind these, as `reading` has them. Assumes nothing.
-use mathlib.Core.Path.{◌≡◌, sym, ap, ◌∙◌}
-use Rattle.format.specs.Format.{got, mapped, of_sheet, header, is_edition}
+use mathlib.Core.Path.{sym, ap, ◌∙◌}
 use Rattle.reader.proofs.BodyLaws.{read_short, read_limits, no_header, no_body, read_tested}
-use Rattle.reader.specs.Answers.{answer_of, set_read, spaced, kept_of, header_is_read}
-use borrow.Author.Rules.{rules}
+use Rattle.reader.specs.Answers.{answer_of, set_read, header_is_read}
 use Rattle.reader.proofs.sheet.read.Goals as goal
 
 pub read_body-requires : goal.read_body-requires

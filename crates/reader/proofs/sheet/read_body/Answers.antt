@@ -3,7 +3,6 @@ use mathlib.Core.Path.{sym, ap, ◌∙◌}
 use Rattle.reader.specs.Answers.{set_read, in_theory}
 use Rattle.reader.specs.Method.{end_read, count_read, header_of}
 use Rattle.reader.proofs.BodyLaws.{no_actions, no_start, no_goal, no_program, body_got}
-use borrow.Author.Rules.{rules}
 use Rattle.reader.proofs.sheet.read_body.Goals as goal
 
 pub returns-in-Refused : goal.returns-in-Refused

@@ -4,13 +4,10 @@ use mathlib.Core.Bool.{◌&&◌}
 use borrow.Author.Tests.{not-true, not-false}
 use Rattle.states.specs.declared.States.{States}
 use Rattle.states.specs.Sets.{member, set_of}
-use Rattle.format.specs.Syntax.{Objective, Sheet}
-use Rattle.format.specs.Format.{got, body, action_faults, faults, decided}
-use Rattle.reader.specs.Answers.{number_of, answer_of, without_value, space_set}
-use Rattle.reader.specs.Method.{passed_to, header_of, start_states}
+use Rattle.reader.specs.Answers.{number_of, answer_of, without_value}
+use Rattle.reader.specs.Method.{passed_to, header_of}
 use Rattle.reader.specs.declared.formula.Walked.{Walked}
 use Rattle.reader.proofs.BodyLaws.{unpadded, stateless, startless, actions_tested}
-use borrow.Author.Rules.{rules}
 use Rattle.reader.proofs.sheet.test_body.Goals as goal
 
 -- The states in common, by what the start set is.

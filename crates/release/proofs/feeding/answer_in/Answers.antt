@@ -1,8 +1,7 @@
 -- `answer_in` meets its contract: one that is too long is refused by its length, any other is verified. Assumes nothing.
-use Rattle.std.proofs.Common.{◌≡◌, ℕ, length, replicate, sym, ◌∙◌, arith, rules}
+use Rattle.std.proofs.Common.{ℕ, replicate, sym, ◌∙◌, arith}
 use lib.ListN.{length-replicate}
 use Rattle.semantics.specs.Verdict.{longest_trace, LongEnough}
-use Rattle.release.specs.Framing.{most_begun}
 use Rattle.release.proofs.FramingLaws.{gathered_size}
 use Rattle.release.proofs.FeedLaws.{sheet_kept_law, answered_long, answered_verified}
 use Rattle.release.proofs.feeding.answer_in.Goals as goal

@@ -1,5 +1,4 @@
 -- `routine::actions::fill_action` meets its contract: a change writes its rows, the set of all states and its head, a probe the tables of its replies and its head. Assumes nothing.
-use borrow.Author.Rules.{rules}
 use native.Mathlib.Omega.{arith}
 use Rattle.routine.proofs.ActionLaws.{change_found, probe_found, never_faulty, never_uncounted, change_room, probe_room, change_filled, probe_filled}
 use Rattle.routine.proofs.actions.fill_action.Goals as goal

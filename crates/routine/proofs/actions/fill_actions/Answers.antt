@@ -1,12 +1,6 @@
 -- `routine::actions::fill_actions` meets its contract. The loop's invariant: the actions from `a` on stand at `p`, and if their sets and their heads are written where they are left to be, all are. The measure is the actions that are left. Assumes nothing.
-use Prim.Native.Nat.{ℕ, ◌-◌, ◌≤◌}
-use mathlib.Core.Path.{◌≡◌}
-use mathlib.Core.List.{List}
 use native.Mathlib.Omega.{arith}
-use lib.ListN.{length}
-use Rattle.format.specs.Syntax.{Action}
-use Rattle.format.specs.Standing.{ActionsAt}
-use Rattle.routine.proofs.ActionLaws.{ActionsLeft, actions_first, actions_here, actions_last}
+use Rattle.routine.proofs.ActionLaws.{actions_first, actions_here, actions_last}
 use Rattle.routine.proofs.actions.fill_actions.Goals as goal
 
 pub loop-a-init : goal.loop-a-init

@@ -2,11 +2,10 @@
 use Prim.Native.Nat.{ℕ, ◌-◌, ◌≤◌}
 use mathlib.Core.Path.{◌≡◌}
 use mathlib.Core.List.{List}
-use native.Mathlib.Omega.{arith}
 use lib.ListN.{length}
 use Rattle.format.specs.Syntax.{Action}
 use Rattle.format.specs.Standing.{ActionsAt}
-use Rattle.routine.proofs.ActionLaws.{ActionsLeft, actions_first, actions_here, actions_last}
+use Rattle.routine.proofs.ActionLaws.{ActionsLeft}
 use Rattle.routine.proofs.actions.fill_actions.Given as goal
 
 abbrev pub invariant-loop-a : goal.invariant-loop-a

@@ -1,15 +1,11 @@
 -- `routine::actions::fill_replies` meets its contract. The loop's invariant: the replies from i on stand at `p`, and if their tables are written where they are left to be, all are. The measure is the replies that are left. Assumes nothing.
-use borrow.Author.Rules.{rules}
 use Prim.Native.Nat.{ℕ, ◌-◌, ◌≤◌}
 use mathlib.Core.Path.{◌≡◌}
 use mathlib.Core.List.{List}
-use native.Mathlib.Omega.{arith}
 use lib.ListN.{length}
 use Rattle.format.specs.Syntax.{Objective}
 use Rattle.format.specs.Standing.{RepliesAt}
-use Rattle.reader.specs.Answers.{in_theory}
-use Rattle.routine.proofs.EvaluatedLaws.{found, never_refused}
-use Rattle.routine.proofs.ActionLaws.{RepliesLeft, replies_first, replies_here, replies_last}
+use Rattle.routine.proofs.ActionLaws.{RepliesLeft}
 use Rattle.routine.proofs.actions.fill_replies.Given as goal
 
 abbrev pub invariant-loop-i : goal.invariant-loop-i

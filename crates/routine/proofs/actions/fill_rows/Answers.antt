@@ -1,15 +1,8 @@
 -- `routine::actions::fill_rows` meets its contract. The loop's invariant: if the rows from `old` on are written where they are left to be, all are. The measure is the states that are left. Assumes nothing.
-use Prim.Native.Nat.{ℕ, ◌+◌, ◌-◌, ◌*◌, ◌%◌, ◌≤◌}
+use Prim.Native.Nat.{◌%◌}
 use mathlib.Core.Path.{◌≡◌, ap, ◌∙◌}
-use mathlib.Core.List.{flat_map}
-use mathlib.Core.Bool.{true}
 use native.Mathlib.Omega.{arith}
-use Rattle.states.specs.Sets.{words, member}
-use Rattle.format.specs.Syntax.{Objective, change}
-use Rattle.format.specs.Standing.{ObjectiveAt}
-use Rattle.lists.specs.Lists.{write}
-use Rattle.routine.specs.Tables.{rows}
-use Rattle.routine.proofs.ActionLaws.{row_of, rows_from, rows_first, rows_next, rows_last}
+use Rattle.routine.proofs.ActionLaws.{row_of, rows_first, rows_next, rows_last}
 use Rattle.routine.proofs.actions.fill_rows.Goals as goal
 
 pub loop-old-init : goal.loop-old-init

@@ -1,7 +1,5 @@
 -- `routine::actions::row` meets its contract: a state outside the space has no row; a theory that stands is not refused. Assumes nothing.
-use borrow.Author.Rules.{rules}
 use mathlib.Core.Path.{sym, ◌∙◌}
-use borrow.Author.Tests.{not-true, not-false}
 use Rattle.reader.specs.Answers.{in_theory}
 use Rattle.routine.proofs.EvaluatedLaws.{found, never_refused}
 use Rattle.routine.proofs.ActionLaws.{row_outside, row_inside}

@@ -1,5 +1,4 @@
 -- `routine::actions::theory_end` meets its contract: a theory that stands is not refused, and ends where it is found to end. Assumes nothing.
-use borrow.Author.Rules.{rules}
 use Rattle.reader.specs.Answers.{in_theory}
 use Rattle.routine.proofs.EvaluatedLaws.{found, never_refused}
 use Rattle.routine.proofs.actions.theory_end.Goals as goal

@@ -6,7 +6,6 @@ use Rattle.reader.specs.Answers.{in_theory}
 use Rattle.states.specs.Sets.{words}
 use Rattle.lists.specs.Lists.{write}
 use Rattle.routine.proofs.EvaluatedLaws.{found, never_refused, states_hold}
-use borrow.Author.Rules.{rules}
 use Rattle.routine.proofs.conditions.fill_atom.Goals as goal
 
 pub returns-in-Refused : goal.returns-in-Refused

@@ -1,5 +1,4 @@
 -- `routine::memory::head_at` meets its contract: each return by the law of its case (proofs/MemoryLaws.antt), and each number fits 16 bits, as what is read does. Assumes nothing.
-use borrow.Author.Rules.{rules}
 use native.Mathlib.Omega.{arith}
 use Rattle.routine.specs.Memory.{head_most, head_at}
 use Rattle.routine.proofs.MemoryLaws.{three_in, past}

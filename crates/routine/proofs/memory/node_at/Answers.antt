@@ -4,7 +4,6 @@ use native.Mathlib.Omega.{arith}
 use Rattle.routine.specs.declared.memory.Node.{Node}
 use Rattle.routine.specs.Memory.{Small, node_most, node_of, node_at}
 use Rattle.routine.proofs.MemoryLaws.{three_in, past, node_small}
-use borrow.Author.Rules.{rules}
 use Rattle.routine.proofs.memory.node_at.Goals as goal
 
 pub returns-then-i-ge-NODES : goal.returns-then-i-ge-NODES

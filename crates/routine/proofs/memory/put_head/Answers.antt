@@ -1,6 +1,5 @@
 -- `routine::memory::put_head` meets its contract: the three stores are the writing of the head's numbers. Assumes nothing.
 use Rattle.routine.proofs.WriteLaws.{three_stores}
-use borrow.Author.Rules.{rules}
 use Rattle.routine.proofs.memory.put_head.Goals as goal
 
 pub returns : goal.returns

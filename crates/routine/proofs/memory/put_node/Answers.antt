@@ -1,5 +1,4 @@
 -- `routine::memory::put_node` meets its contract: the numbers that `put_cells` writes are those of the node. Assumes nothing.
-use borrow.Author.Rules.{rules}
 use Prim.Native.Nat.{ℕ}
 use mathlib.Core.List.{List, [], ◌∷◌}
 use mathlib.Core.Path.{◌≡◌, subst}

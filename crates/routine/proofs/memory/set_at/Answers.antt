@@ -1,5 +1,4 @@
 -- `routine::memory::set_at` meets its contract: each return by the law of its case (proofs/MemoryLaws.antt). Assumes nothing.
-use borrow.Author.Rules.{rules}
 use mathlib.Core.Path.{◌∙◌}
 use native.Mathlib.Omega.{arith}
 use Rattle.routine.specs.Memory.{set_most, set_at}

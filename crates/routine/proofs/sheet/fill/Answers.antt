@@ -1,13 +1,9 @@
 -- `routine::sheet::fill` meets its contract: each part is written where PrepareLaws says. Assumes nothing.
-use mathlib.Core.Path.{◌≡◌}
-use borrow.Author.Rules.{rules}
-use Rattle.format.specs.Standing.{ObjectiveAt}
 use Rattle.format.proofs.SheetLaws.{accepted_length}
-use Rattle.reader.specs.Answers.{in_theory, states_in}
 use Rattle.reader.specs.declared.formula.View.{View}
 use Rattle.routine.specs.Tables.{sheet_heads, node_cells, set_words, prepared_of}
 use Rattle.routine.proofs.EvaluatedLaws.{found, never_refused}
-use Rattle.routine.proofs.PrepareLaws.{stands, HeaderIs, header_refused, header_found, actions_room, start_stands, start_filled, start_accepted, routine_room, prepared_accepted, heads_filled, nodes_filled, sets_filled}
+use Rattle.routine.proofs.PrepareLaws.{header_refused, header_found, actions_room, start_stands, start_filled, start_accepted, routine_room, prepared_accepted, heads_filled, nodes_filled, sets_filled}
 use Rattle.routine.proofs.sheet.fill.Goals as goal
 
 pub returns-in_default : goal.returns-in_default

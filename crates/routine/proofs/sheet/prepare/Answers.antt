@@ -1,6 +1,5 @@
 -- `routine::prepare` meets its contract: it fills the memory for an accepted sheet and nothing else. Assumes nothing.
 use mathlib.Core.Path.{ap, sym, ◌∙◌}
-use borrow.Author.Rules.{rules}
 use Rattle.reader.specs.Answers.{answer_of}
 use Rattle.routine.specs.Tables.{prepared_of, sheet_heads, node_cells, set_words}
 use Rattle.routine.proofs.PrepareLaws.{some_sheet, refused_start, refused_memory}

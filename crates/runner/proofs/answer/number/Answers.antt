@@ -1,6 +1,5 @@
 -- `runner::number` meets its contract, case by case. Assumes nothing.
 use Rattle.runner.specs.Answers.{rejection_number}
-use borrow.Author.Rules.{rules}
 use Rattle.runner.proofs.answer.number.Goals as goal
 
 pub returns-in-BadRecord : goal.returns-in-BadRecord

@@ -1,9 +1,6 @@
 -- `runner::copied` meets its contract. The loop's invariant: the bytes before the index are copied, and zeros stand behind them. The measure is the number of bytes that are left. Assumes nothing.
-use Prim.Native.Nat.{◌≤◌, ◌-◌}
-use mathlib.Core.Path.{◌≡◌, refl, ◌∙◌}
-use mathlib.Core.List.{◌++◌}
+use mathlib.Core.Path.{refl, ◌∙◌}
 use native.Mathlib.Omega.{arith}
-use lib.ListN.{length, take, replicate}
 use Rattle.format.specs.Format.{most_bytes}
 use Rattle.runner.proofs.RecordLaws.{pad_more, pad_end}
 use Rattle.runner.proofs.calls.copied.Goals as goal

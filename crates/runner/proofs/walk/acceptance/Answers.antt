@@ -1,7 +1,6 @@
 -- `walk::acceptance` meets its contract, case by case. Assumes nothing.
 use mathlib.Core.Path.{sym, ap}
 use Rattle.runner.specs.Walks.{accepted_at}
-use borrow.Author.Rules.{rules}
 use Rattle.runner.proofs.walk.acceptance.Goals as goal
 
 pub returns-in-At : goal.returns-in-At

@@ -3,7 +3,6 @@ use mathlib.Core.Path.{sym, ap}
 use Rattle.runner.specs.declared.walk.Walked.{Walked}
 use Rattle.runner.specs.Walks.{judged_at}
 use Rattle.runner.proofs.StandLaws.{judged_act, judged_end}
-use borrow.Author.Rules.{rules}
 use Rattle.runner.proofs.walk.add.Goals as goal
 
 pub returns-in-Act : goal.returns-in-Act

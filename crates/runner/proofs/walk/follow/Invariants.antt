@@ -1,17 +1,9 @@
 -- `walk::follow` meets its contract. The loop's invariant: all replies lead where those that are left lead from the set and the node reached.
 -- The measure is the number of replies that are left. Assumes nothing.
-use Prim.Native.Nat.{ℕ, ◌-◌, ◌<◌, ◌≤◌}
-use mathlib.Core.Path.{◌≡◌, refl, sym, ap, subst, ◌∙◌}
-use mathlib.Core.List.{List}
-use native.Mathlib.Omega.{arith}
+use Prim.Native.Nat.{◌-◌, ◌≤◌}
+use mathlib.Core.Path.{◌≡◌}
 use lib.ListN.{length, drop}
-use borrow.Author.Rules.{rules}
-use Rattle.format.specs.Format.{gives}
-use Rattle.routine.specs.Memory.{node_most}
-use Rattle.progression.specs.declared.place.Place.{Place}
-use Rattle.progression.specs.Machine.{settled, Inside}
-use Rattle.runner.specs.Walks.{walked_of, stands_from}
-use Rattle.runner.proofs.StandLaws.{ends_before, no_state, steps_on, all_read}
+use Rattle.runner.specs.Walks.{stands_from}
 use Rattle.runner.proofs.walk.follow.Given as goal
 
 abbrev pub invariant-loop-k : goal.invariant-loop-k

@@ -2,7 +2,6 @@
 use mathlib.Core.Path.{refl, sym, ap, ◌∙◌}
 use Rattle.runner.specs.Records.{are_zero}
 use Rattle.runner.proofs.RecordLaws.{part_rest, too_long, rest_decides}
-use borrow.Author.Rules.{rules}
 use Rattle.runner.proofs.walk.is_padded.Goals as goal
 
 pub returns-then-bytes-n : goal.returns-then-bytes-n

@@ -1,5 +1,4 @@
 -- `walk::judge` meets its contract: the head of the action tells how many replies it has, and the pass whether it is possible. Assumes nothing.
-use borrow.Author.Rules.{rules}
 use Rattle.runner.proofs.StandLaws.{no_reply, impossible, possible}
 use Rattle.runner.proofs.walk.judge.Goals as goal
 

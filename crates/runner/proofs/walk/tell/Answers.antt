@@ -2,7 +2,6 @@
 use mathlib.Core.Path.{sym, ap}
 use Rattle.runner.specs.Walks.{told_at}
 use Rattle.runner.proofs.StandLaws.{told_act, told_end}
-use borrow.Author.Rules.{rules}
 use Rattle.runner.proofs.walk.tell.Goals as goal
 
 pub returns-in-Act : goal.returns-in-Act

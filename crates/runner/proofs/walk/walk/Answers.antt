@@ -1,10 +1,8 @@
 -- `walk::walk` meets its contract: the sheet is prepared in the lent tables, and these tell where the replies lead. Assumes nothing.
 use mathlib.Core.Path.{sym, ◌∙◌}
 use lib.Seq.{length-take-le}
-use borrow.Author.Tests.{not-true, not-false}
 use Rattle.runner.proofs.RecordLaws.{padded_within}
 use Rattle.runner.proofs.StandLaws.{walk_refused, walk_unpadded, walk_followed}
-use borrow.Author.Rules.{rules}
 use Rattle.runner.proofs.walk.walk.Goals as goal
 
 pub returns-then-not-is_padded : goal.returns-then-not-is_padded

@@ -1,6 +1,5 @@
 -- `states::States::at` meets its contract: each word is the one there. Assumes nothing.
 use mathlib.Core.Path.{◌∙◌}
-use borrow.Author.Rules.{rules}
 use Rattle.states.specs.Sets.{words_at}
 use Rattle.states.proofs.SetLaws.{four_words, none_behind}
 use Rattle.states.proofs.States.at.Goals as goal

@@ -1,10 +1,9 @@
 -- `states::States::least` meets its contract. The loop's invariant: the least state of the set is the first from s on. The measure is what is left of the 256 states. Assumes nothing.
-use Prim.Native.Nat.{◌-◌, ◌%◌, ◌≤◌}
+use Prim.Native.Nat.{◌%◌}
 use mathlib.Core.Path.{◌≡◌, sym, ap, ◌∙◌}
 use mathlib.Core.Bool.{true, false}
 use native.Mathlib.Omega.{arith}
-use borrow.Author.Rules.{rules}
-use Rattle.states.specs.Sets.{member, members, least_of}
+use Rattle.states.specs.Sets.{member}
 use Rattle.states.proofs.SetLaws.{least_from, least_start, least_here, least_later, least_end}
 use Rattle.states.proofs.States.least.Goals as goal
 

@@ -1,5 +1,4 @@
 -- `states::States::of_words` meets its contract. Assumes nothing.
-use borrow.Author.Rules.{rules}
 use Rattle.states.specs.Sets.{of_words}
 use Rattle.states.proofs.States.of_words.Goals as goal
 

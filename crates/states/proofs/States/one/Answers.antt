@@ -6,7 +6,6 @@ use Rattle.lists.specs.Lists.{if◌then◌else◌}
 use Rattle.states.specs.Sets.{word}
 use Rattle.states.proofs.BitLaws.{shifted_one}
 use Rattle.states.proofs.SetLaws.{four, one_is}
-use borrow.Author.Rules.{rules}
 use Rattle.states.proofs.States.one.Goals as goal
 
 pub returns-in-0 : goal.returns-in-0

@@ -1,5 +1,4 @@
 -- `states::States::put` meets its contract: four stores, or none where there is no room. Assumes nothing.
-use borrow.Author.Rules.{rules}
 use Rattle.states.proofs.SetLaws.{put_words, put_none}
 use Rattle.states.proofs.States.put.Goals as goal
 

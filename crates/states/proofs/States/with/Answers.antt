@@ -5,7 +5,6 @@ use lib.Dec.{eqb}
 use Rattle.states.specs.declared.States.{States}
 use Rattle.states.specs.Sets.{member}
 use Rattle.states.proofs.SetLaws.{member_set_of, set_cong}
-use borrow.Author.Rules.{rules}
 use Rattle.states.proofs.States.with.Goals as goal
 
 pub returns : goal.returns

@@ -1,5 +1,5 @@
 -- `verifier::least::feasible_at` meets its contract: the four words are those of the set. Assumes nothing.
-use Rattle.std.proofs.Common.{◌∙◌, arith, rules}
+use Rattle.std.proofs.Common.{◌∙◌, arith}
 use Rattle.routine.proofs.MemoryLaws.{set_in}
 use Rattle.verifier.proofs.least.feasible_at.Goals as goal
 

@@ -1,7 +1,7 @@
 -- `verifier::least::fill_feasible` meets its contract. The loop's invariant: the feasible from place k on are written, and the set is that of place k. The measure is k. Assumes nothing.
-use Rattle.std.proofs.Common.{◌≡◌, ℕ, ◌+◌, ◌-◌, ◌≤◌, length, ap, ◌∙◌, subst, arith, rules}
+use Rattle.std.proofs.Common.{◌≡◌, ◌≤◌, length}
 use Rattle.verifier.specs.Least.{FeasibleFrom}
-use Rattle.verifier.proofs.FeasibleLaws.{rest, rest_end, rest_before, filled_none, filled_more}
+use Rattle.verifier.proofs.FeasibleLaws.{rest}
 use Rattle.verifier.proofs.least.fill_feasible.Given as goal
 
 abbrev pub invariant-loop-k : goal.invariant-loop-k

@@ -1,6 +1,6 @@
 -- `verifier::least::least_along` meets its contract. The loop's invariant: what is shown up to place k with what the least run shows from there on is the whole, and the other bytes are as they were. The measure is the entries that are left. Assumes nothing.
-use Rattle.std.proofs.Common.{◌≡◌, ◌+◌, ◌-◌, ◌*◌, ◌≤◌, length, get_or, ◌∙◌, arith, length-set, rules}
-use Rattle.verifier.proofs.FeasibleLaws.{filled_is, At, at_start, at_more, shown_all}
+use Rattle.std.proofs.Common.{◌-◌, ◌≤◌}
+use Rattle.verifier.proofs.FeasibleLaws.{At}
 use Rattle.verifier.proofs.least.least_along.Given as goal
 
 abbrev pub invariant-loop-k : goal.invariant-loop-k

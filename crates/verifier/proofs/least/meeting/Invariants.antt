@@ -1,6 +1,6 @@
 -- `verifier::least::meeting` meets its contract. The loop's invariant: the set has the states below s whose sets have a state of the given one. The measure is what is left of the 256 states. Assumes nothing.
-use Rattle.std.proofs.Common.{◌≡◌, ◌-◌, ◌≤◌, true, false, ◌∙◌, ⊎_elim, arith, rules}
-use Rattle.verifier.proofs.FeasibleLaws.{up_to_set, set_start, set_done, set_without, set_with, meets, meets_test, not_either}
+use Rattle.std.proofs.Common.{◌≡◌, ◌-◌, ◌≤◌}
+use Rattle.verifier.proofs.FeasibleLaws.{up_to_set, meets}
 use Rattle.verifier.proofs.least.meeting.Given as goal
 
 abbrev pub invariant-loop-s : goal.invariant-loop-s

@@ -1,5 +1,5 @@
 -- `verifier::least::preimage` meets its contract: each return by the law of its case (proofs/FeasibleLaws.antt). Assumes nothing.
-use Rattle.std.proofs.Common.{◌∙◌, arith, rules}
+use Rattle.std.proofs.Common.{◌∙◌, arith}
 use Rattle.verifier.proofs.FeasibleLaws.{preimage_none, preimage_rows, preimage_same}
 use Rattle.verifier.proofs.least.preimage.Goals as goal
 

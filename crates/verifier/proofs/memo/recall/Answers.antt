@@ -1,5 +1,5 @@
 -- `verifier::memo::recall` meets its contract: it tells what the slot tells. Assumes nothing.
-use Rattle.std.proofs.Common.{ap, ◌∙◌, rules}
+use Rattle.std.proofs.Common.{ap, ◌∙◌}
 use Rattle.verifier.specs.declared.memo.Slot.{Slot}
 use Rattle.verifier.specs.Memo.{serves, recalled}
 use Rattle.verifier.proofs.MemoLaws.{recalled_passed, recalled_nothing}

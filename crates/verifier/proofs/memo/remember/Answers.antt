@@ -1,6 +1,5 @@
 -- `verifier::memo::remember` meets its contract: four stores, and the words of the set behind them. Assumes nothing.
 use Rattle.verifier.proofs.MemoLaws.{slot_stored}
-use Rattle.std.proofs.Common.{rules}
 use Rattle.verifier.proofs.memo.remember.Goals as goal
 
 pub returns : goal.returns

@@ -1,14 +1,11 @@
 -- `verifier::search` meets its contract. The loop's invariant: the replies from `reply` on with the count reached give what all replies give from the beginning. The measure is the number of
 -- actions that there is room for behind `depth`. What the slots of the memory say is so before and after: a slot is written where all replies have passed. Assumes nothing.
-use Rattle.std.proofs.Common.{◌≡◌, ℕ, ◌+◌, ◌-◌, ◌<◌, ◌≤◌, Bool, length, take, set, sym, refl, ap, ◌∙◌, subst, arith, length-set, rules}
-use Rattle.states.specs.declared.States.{States}
-use Rattle.semantics.specs.Runs.{entry}
+use Rattle.std.proofs.Common.{◌≡◌, ◌+◌, ◌-◌, ◌<◌, Bool, length, take, set, sym, refl, ap, ◌∙◌, subst, arith, length-set}
 use Rattle.routine.specs.declared.memory.Head.{Head}
 use Rattle.progression.specs.declared.place.Place.{Place}
-use Rattle.progression.specs.Machine.{settled}
 use Rattle.verifier.specs.declared.search.Searched.{Searched}
-use Rattle.verifier.specs.Search.{Found, passed, behind, and_then, searched, SearchedBy}
-use Rattle.verifier.specs.Memo.{SlotSound, Sound}
+use Rattle.verifier.specs.Search.{searched, SearchedBy}
+use Rattle.verifier.specs.Memo.{Sound}
 use Rattle.verifier.proofs.PathLaws.{replies_from, replies_end, reply_skip, reply_over, reply_deeper, searched_passed, searched_failed, searched_over, searched_act, searched_within, node_inside, here_passed, here_failed, here_over, after_failed, after_over, after_passed}
 use Rattle.verifier.proofs.MemoLaws.{reaching_searched, recalled_found, passed_sound, written_sound}
 use Rattle.verifier.proofs.search.+search.Goals as goal

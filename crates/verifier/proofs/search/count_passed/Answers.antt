@@ -1,5 +1,5 @@
 -- `verifier::search::count_passed` meets its contract: it compares what is more with what the budget leaves. Assumes nothing.
-use Rattle.std.proofs.Common.{arith, rules}
+use Rattle.std.proofs.Common.{arith}
 use Rattle.verifier.proofs.MemoLaws.{passed_reaching, over_reaching}
 use Rattle.verifier.proofs.search.count_passed.Goals as goal
 

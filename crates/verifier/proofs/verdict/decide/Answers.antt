@@ -1,5 +1,5 @@
 -- `decide` meets its contract: it answers as the search finds, and shows the least run along the path that the search leaves. Assumes nothing.
-use Rattle.std.proofs.Common.{refl, arith, rules}
+use Rattle.std.proofs.Common.{refl, arith}
 use Rattle.verifier.proofs.MemoLaws.{empty_sound}
 use Rattle.verifier.proofs.AnswerLaws.{passed_decides, over_decides, failed_short, failed_decides}
 use Rattle.verifier.proofs.verdict.decide.Goals as goal

@@ -1,6 +1,5 @@
 -- `verify` meets its contract: its tables have the lengths of their types. Assumes nothing.
 use Rattle.routine.proofs.MemoryLaws.{fresh_sized}
-use Rattle.std.proofs.Common.{rules}
 use Rattle.verifier.proofs.verdict.verify.Goals as goal
 
 pub returns : goal.returns

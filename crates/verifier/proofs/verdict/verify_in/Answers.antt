@@ -1,6 +1,5 @@
 -- `verify_in` meets its contract: answer, trace memory, tables and memo are those of the definitions, refusals included. Assumes nothing.
 use Rattle.verifier.proofs.AnswerLaws.{short_answered, refused_answered, ready_answered}
-use Rattle.std.proofs.Common.{rules}
 use Rattle.verifier.proofs.verdict.verify_in.Goals as goal
 
 pub returns-then-trace-lt-TRACE : goal.returns-then-trace-lt-TRACE

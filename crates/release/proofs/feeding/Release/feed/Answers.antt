@@ -1,10 +1,7 @@
 -- `Release::feed` meets its contract. The loop's invariant: what is left of the piece gives what the whole piece gives. The measure is the number of lengths that are left. Assumes nothing.
-use Rattle.std.proofs.Common.{◌≡◌, ℕ, ◌-◌, ◌≤◌, List, length, refl, arith, rules}
-use Rattle.semantics.specs.Figures.{most_lengths}
-use Rattle.release.specs.Framing.{size_of}
-use Rattle.release.specs.Filling.{gathered}
+use Rattle.std.proofs.Common.{refl}
 use Rattle.release.proofs.FramingLaws.{opened_within}
-use Rattle.release.proofs.FeedLaws.{Going, going_start, is_short, is_not, cut_state, cut_memo, cut_tables, all_there, going_next, done_state, done_memo, done_tables, standing_none, fed_promise}
+use Rattle.release.proofs.FeedLaws.{going_start, is_short, is_not, cut_state, cut_memo, cut_tables, all_there, going_next, done_state, done_memo, done_tables, standing_none, fed_promise}
 use Rattle.release.proofs.feeding.Release.feed.Goals as goal
 
 pub loop-lengths-init : goal.loop-lengths-init

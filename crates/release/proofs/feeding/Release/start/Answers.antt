@@ -1,5 +1,5 @@
 -- `Release::start` meets its contract. Assumes nothing.
-use Rattle.std.proofs.Common.{sym, ap, ◌∙◌, rules}
+use Rattle.std.proofs.Common.{sym, ap, ◌∙◌}
 use Rattle.release.specs.declared.framing.Begun.{Begun}
 use Rattle.release.specs.Counting.{no_figures}
 use Rattle.release.proofs.FeedLaws.{state_none}

@@ -1,5 +1,5 @@
 -- `Figures::with_refused` meets its contract. Assumes nothing.
-use Rattle.std.proofs.Common.{ℕ, ap, refl, rules}
+use Rattle.std.proofs.Common.{ℕ, ap, refl}
 use Rattle.release.specs.Counting.{plus, with_cut}
 use Rattle.release.proofs.figures.Figures.with_refused.Goals as goal
 

@@ -1,5 +1,5 @@
 -- `Begun::fill` meets its contract: first the length and then its sheet. Assumes nothing.
-use Rattle.std.proofs.Common.{◌≡◌, ap, ◌∙◌, arith, rules}
+use Rattle.std.proofs.Common.{◌≡◌, ap, ◌∙◌, arith}
 use Rattle.release.specs.declared.framing.Begun.{Begun}
 use Rattle.release.specs.Framing.{most_begun, size_of}
 use Rattle.release.specs.Filling.{gathered, with_more}

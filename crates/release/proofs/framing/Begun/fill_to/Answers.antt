@@ -1,5 +1,5 @@
 -- `Begun::fill_to` meets its contract. The loop adds the bytes that are kept, one by one. Assumes nothing.
-use Rattle.std.proofs.Common.{◌≡◌, ℕ, ◌+◌, ◌-◌, ◌<◌, ◌≤◌, List, ◌++◌, length, take, drop, ap, ◌∙◌, arith, rules}
+use Rattle.std.proofs.Common.{◌≡◌, ◌+◌, ◌-◌, ◌<◌, ◌≤◌, length, ap, ◌∙◌, arith}
 use Rattle.release.specs.declared.framing.Begun.{Begun}
 use Rattle.release.specs.Framing.{first_of, most_begun}
 use Rattle.release.specs.Filling.{gathered}

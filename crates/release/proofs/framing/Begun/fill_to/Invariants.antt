@@ -1,9 +1,6 @@
 -- `Begun::fill_to` meets its contract. The loop adds the bytes that are kept, one by one. Assumes nothing.
-use Rattle.std.proofs.Common.{◌≡◌, ℕ, ◌+◌, ◌-◌, ◌<◌, ◌≤◌, List, ◌++◌, length, take, drop, ap, ◌∙◌, arith, rules}
-use Rattle.release.specs.declared.framing.Begun.{Begun}
+use Rattle.std.proofs.Common.{◌≡◌, ℕ, ◌-◌, ◌≤◌, List, ◌++◌, length, take, drop}
 use Rattle.release.specs.Framing.{first_of, most_begun}
-use Rattle.release.specs.Filling.{gathered}
-use Rattle.release.proofs.FillLaws.{more_start, more_step, more_end, filled_to, filled_already}
 use Rattle.release.proofs.framing.Begun.fill_to.Given as goal
 
 abbrev pub invariant-loop-i : goal.invariant-loop-i

@@ -1,6 +1,6 @@
 -- `Begun::settled` meets its contract. The loop copies what is kept, byte by byte. Assumes nothing.
-use Rattle.std.proofs.Common.{◌≡◌, ◌-◌, ◌≤◌, arith, rules}
-use Rattle.release.specs.Framing.{first_of, most_begun}
+use Rattle.std.proofs.Common.{arith}
+use Rattle.release.specs.Framing.{most_begun}
 use Rattle.release.proofs.FillLaws.{copy_start, copy_next, settled_is}
 use Rattle.release.proofs.framing.Begun.settled.Goals as goal
 

@@ -1,6 +1,5 @@
 -- `Begun::size` meets its contract. Assumes nothing.
 use Rattle.release.specs.Framing.{length_of, size_of}
-use Rattle.std.proofs.Common.{rules}
 use Rattle.release.proofs.framing.Begun.size.Goals as goal
 
 pub returns : goal.returns

@@ -1,5 +1,5 @@
 -- `Begun::stored` meets its contract: all is kept, or of a sheet that is too long its length. Assumes nothing.
-use Rattle.std.proofs.Common.{◌∙◌, arith, rules}
+use Rattle.std.proofs.Common.{◌∙◌, arith}
 use Rattle.release.proofs.FramingLaws.{gathered_size, stored_all, stored_cut}
 use Rattle.release.proofs.framing.Begun.stored.Goals as goal
 

@@ -1,11 +1,9 @@
 -- `Record::begin` meets its contract: the answer decides which record is loaded, and an accepted sheet fits into it. Assumes nothing.
-use mathlib.Core.Path.{◌≡◌, sym, ap, ◌∙◌}
+use mathlib.Core.Path.{sym, ap, ◌∙◌}
 use lib.ListN.{length, replicate}
-use Rattle.reader.specs.declared.sheet.Acceptance.{Acceptance}
-use Rattle.format.specs.Format.{reading, most_acts}
-use Rattle.reader.specs.Answers.{answer_of, without_value}
+use Rattle.format.specs.Format.{most_acts}
+use Rattle.reader.specs.Answers.{answer_of}
 use Rattle.runner.proofs.RecordLaws.{accepted_fits, loaded_accepted, loaded_refused}
-use borrow.Author.Rules.{rules}
 use Rattle.runner.proofs.calls.Record.begin.Goals as goal
 
 pub copied-sheet-requires : goal.copied-sheet-requires

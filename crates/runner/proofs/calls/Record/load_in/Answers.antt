@@ -2,7 +2,6 @@
 use mathlib.Core.Path.{ap, ◌∙◌}
 use Rattle.reader.specs.Answers.{answer_of}
 use Rattle.runner.proofs.WalkLaws.{accepted_in_law}
-use borrow.Author.Rules.{rules}
 use Rattle.runner.proofs.calls.Record.load_in.Goals as goal
 
 pub begin-requires : goal.begin-requires

@@ -1,6 +1,5 @@
 -- `Record::next` meets its contract: its tables have the lengths of their types. Assumes nothing.
 use Rattle.routine.proofs.MemoryLaws.{fresh_sized}
-use borrow.Author.Rules.{rules}
 use Rattle.runner.proofs.calls.Record.next.Goals as goal
 
 pub returns : goal.returns

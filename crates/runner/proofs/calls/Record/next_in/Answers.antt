@@ -1,7 +1,6 @@
 -- `Record::next_in` meets its contract: what is told where the record's replies lead. Assumes nothing.
 use mathlib.Core.Path.{refl}
 use Rattle.runner.proofs.WalkLaws.{told_is}
-use borrow.Author.Rules.{rules}
 use Rattle.runner.proofs.calls.Record.next_in.Goals as goal
 
 pub returns : goal.returns

@@ -1,18 +1,11 @@
 -- `Record::report_in` meets its contract: the reply is judged where the record's replies lead, and an accepted one stands behind them. Behind 64 replies of a run there is no
 -- action, so that the test for room refuses nothing. Assumes nothing.
 use native.Mathlib.Omega.{arith}
-use mathlib.Core.Path.{◌≡◌, sym, ◌∙◌}
-use lib.ListN.{length}
-use Rattle.format.specs.Format.{gives, most_bytes, most_acts}
-use Rattle.reader.specs.Answers.{without_value}
-use Rattle.routine.specs.Memory.{Sized}
-use Rattle.runner.specs.declared.walk.Judged.{Judged}
-use Rattle.runner.specs.Records.{report_on}
+use mathlib.Core.Path.{sym, ◌∙◌}
 use Rattle.runner.specs.Answers.{reported_of}
 use Rattle.runner.proofs.CallLaws.{after_refused, has_room, after_accepted}
 use Rattle.runner.proofs.WalkLaws.{report_of, report_is}
 use Rattle.runner.proofs.Sizes.{sheet_size, replies_size}
-use borrow.Author.Rules.{rules}
 use Rattle.runner.proofs.calls.Record.report_in.Goals as goal
 
 pub returns-then-count-ge-REPLIES : goal.returns-then-count-ge-REPLIES

@@ -1,16 +1,14 @@
 -- `Record::stand_in` meets its contract: a sheet that is padded is walked, another leads nowhere and leaves the tables as they were. Assumes nothing.
 use Prim.Native.Nat.{ℕ, ◌≤◌}
 use native.Mathlib.Omega.{arith}
-use mathlib.Core.Path.{◌≡◌, sym, ap, ◌∙◌}
+use mathlib.Core.Path.{sym, ap, ◌∙◌}
 use lib.ListN.{length}
 use lib.Seq.{length-take-le}
-use borrow.Author.Tests.{not-true, not-false}
 use Rattle.format.specs.Format.{most_bytes}
 use Rattle.runner.specs.Records.{is_padded}
 use Rattle.runner.proofs.RecordLaws.{padded_within}
 use Rattle.runner.proofs.WalkLaws.{stands_not, stands_walked, unprepared, was_prepared}
 use Rattle.runner.proofs.Sizes.{sheet_size, replies_size}
-use borrow.Author.Rules.{rules}
 use Rattle.runner.proofs.calls.Record.stand_in.Goals as goal
 
 pub returns-then-not-is_padded : goal.returns-then-not-is_padded
