@@ -2,7 +2,7 @@
 use Prim.Native.Nat.{ℕ, suc, ◌+◌, ◌*◌, ◌^◌, ◌<◌}
 use native.Mathlib.Omega.{arith}
 use mathlib.Core.Path.{◌≡◌, refl, sym, ap, subst, ◌∙◌}
-use mathlib.Core.Logic.{◌⊎◌, ⊎_elim, ◌↔◌}
+use mathlib.Core.Logic.{◌⊎◌, inl, inr, ⊎_elim, ◌↔◌}
 use mathlib.Core.List.Memᴰ
 use mathlib.Core.List.{List, [], ◌∷◌, ◌++◌, Memᴰ}
 use mathlib.Core.Bool.{false}
@@ -34,7 +34,11 @@ use Rattle.claims.proofs.TableLaws.{tabled, carried_known}
 -- An element of a list stands at a place of it.
 mem_get : {A : Type 0} (d : A) {x : A} (xs : List A) → Memᴰ x xs → (k : ℕ) × (k < length xs) × (get_or xs k d ≡ x)
 mem_get d [] m = absurd (Memᴰ.not-nil m)
-mem_get d {x} (y ∷ xs) m = ⊎_elim (λ (e : x ≡ y). (0, omega arith, sym e)) (λ k. let q = mem_get d xs k in (suc q.0, omega (arith, q.1), q.2)) (Memᴰ.cases_cons m)
+mem_get d {x} (y ∷ xs) m = go (λ (l : Memᴰ x xs). mem_get d xs l) (Memᴰ.cases_cons m)
+  where
+    go : (Memᴰ x xs → (k : ℕ) × (k < length xs) × (get_or xs k d ≡ x)) → (x ≡ y) ⊎ Memᴰ x xs → (k : ℕ) × (k < length (y ∷ xs)) × (get_or (y ∷ xs) k d ≡ x)
+    go behind (inl e) = (0, omega arith, sym e)
+    go behind (inr l) = let q = behind l in (suc q.0, omega (arith, q.1), q.2)
 
 -- The set of an atom's formula is among those of its formula's atoms, and so of its program.
 atom_set : (f : Objective) (e : Epistemic) → Atom f e → Memᴰ (set_of (λ s. holds f s)) (atom_sets e)

@@ -35,18 +35,11 @@ use Rattle.runner.specs.Calls.{Form, own, lent}
 use Rattle.recovery.specs.Numbers.{memory_after, start_words, verdict_numbers, checked_number, place_number, flag_number, told_numbers, lengths_of, DoneRead, ValueRead, CheckRead, FlagRead, PlaceRead}
 use Rattle.recovery.proofs.ReadLaws.{done_read, done_one, value_read, value_one, verdict_one, told_one, check_read, check_one, flag_read, flag_one, place_read, place_one}
 use Rattle.recovery.specs.Arguments.{Tables, tables_after, to_read, to_prepare, to_step, to_pass, to_settle, to_know, to_print}
-use Rattle.recovery.proofs.CallLaws as linked-calls
-use Rattle.recovery.proofs.recovery_read.Symbol as read-symbol
-use Rattle.recovery.proofs.recovery_print.Symbol as print-symbol
-use Rattle.recovery.proofs.recovery_prepare.Symbol as prepare-symbol
-use Rattle.recovery.proofs.recovery_step.Symbol as step-symbol
-use Rattle.recovery.proofs.recovery_pass.Symbol as pass-symbol
-use Rattle.recovery.proofs.recovery_settle.Symbol as settle-symbol
-use Rattle.recovery.proofs.recovery_known.Symbol as known-symbol
 use Rattle.claims.specs.Library.{Gave, EveryCallEnds}
 use Rattle.claims.specs.Library.{ToVerify, AfterVerify, ToCheck, AfterCheck, ToPrint, AfterPrint, ToPrepare, AfterPrepare, ToStep, ToPass, AfterPass, ToSettle, ToKnow}
 use Rattle.claims.specs.Library.{ToLoad, AfterLoad, ToNext, AfterNext, ToReport, AfterReport}
-use Rattle.claims.specs.Linked.{verifier, verifying, checker, checking, loader, loading, teller, telling, reporter, reporting, SameIfOwn, compiled, linked}
+use Rattle.claims.specs.Linked.{Functions, verifier, verifying, checker, checking, loader, loading, teller, telling, reporter, reporting, SameIfOwn, compiled, linked}
+use Rattle.claims.proofs.CallLaws.{Laws}
 use Rattle.claims.specs.Terms.{tables_left, memo_left, verified_as, checked_as, printed_as, prepared_as, passed_as, loaded_as, told_as, reported_as}
 use Rattle.claims.proofs.SetLaws.{unit_answer_set, bool_answer_set, verdict_answer_set, told_answer_set, place_set, record_set, tables_set}
 use Rattle.claims.proofs.NumberLaws.{reading_numbered, checked_numbered, verified_numbered, next_numbered, report_numbered}
@@ -59,11 +52,11 @@ pass_parts : (p : ℕ → Place) (t : Tables) (action reply : ℕ) (kept kept' :
     → (kept ≡ kept') × (n ≡ n')
 pass_parts p t action reply kept kept' n n' e = (cc, cc)
 
-module _ {M : Type 1} {𝓤 : Ura M} (𝓛 : Logic 𝓤) (𝓜 : Model 𝓤 𝓛.H) where
+module _ {M : Type 1} {𝓤 : Ura M} (𝓛 : Logic 𝓤) (𝓜 : Model 𝓤 𝓛.H) (fs : Functions) (laws : Laws 𝓛 𝓜 fs) where
   open 𝓛 use {H}
 
   abbrev library : Rattle.claims.specs.Library.Library {1}
-  library = linked 𝓤 H 𝓜
+  library = linked 𝓤 H 𝓜 fs
 
   -- Of any function: what its call leaves is what it gives.
   module _ {Takes Gives : Type 0} (function : Routine) (arguments : (ℕ → Place) → Takes → List Argument)
@@ -93,11 +86,11 @@ module _ {M : Type 1} {𝓤 : Ura M} (𝓛 : Logic 𝓤) (𝓜 : Model 𝓤 𝓛
 
   pub read_ends : EveryCallEnds library.read
   read_ends =
-      every_ends read-symbol.routine to_read _ read_result to_read (linked-calls.read_leaves 𝓛 𝓜) (λ p sheet others c. ∣ (without_value (reading sheet), (number_for (reading sheet), refl, refl, done_read (reading sheet) (reading_numbered sheet))) ∣₁)
+      every_ends fs.read to_read _ read_result to_read (laws.read_leaves) (λ p sheet others c. ∣ (without_value (reading sheet), (number_for (reading sheet), refl, refl, done_read (reading sheet) (reading_numbered sheet))) ∣₁)
 
   pub read_fixed : (sheet : List ℕ) (a : Answer (Unit {0})) → Gave library.read sheet a → a ≡ without_value (reading sheet)
   read_fixed sheet a g =
-      ∥∥₁_elim (gave_meant read-symbol.routine to_read _ read_result to_read (linked-calls.read_leaves 𝓛 𝓜) sheet a g) (unit_answer_set _ _) (λ m.
+      ∥∥₁_elim (gave_meant fs.read to_read _ read_result to_read (laws.read_leaves) sheet a g) (unit_answer_set _ _) (λ m.
       let k : number_for (reading sheet) ≡ m.2.0 = let e = m.2.1 in cc in
       done_one m.2.0 a (without_value (reading sheet)) m.2.3 (subst (λ (n : ℕ). DoneRead n (without_value (reading sheet))) k (done_read (reading sheet) (reading_numbered sheet))))
 
@@ -114,10 +107,10 @@ module _ {M : Type 1} {𝓤 : Ura M} (𝓛 : Logic 𝓤) (𝓜 : Model 𝓤 𝓛
         let y = verified_as form x in
         verifying form p x.sheet x.budget y.trace y.verdict y.tables y.memo
 
-  verify_leaves : (form : Form) (p : ℕ → Place) (x : ToVerify) → Leaves 𝓛 𝓜 (verifier form) (verify_arguments form p x) (verify_result form x) (verify_last form p x)
+  verify_leaves : (form : Form) (p : ℕ → Place) (x : ToVerify) → Leaves 𝓛 𝓜 (verifier fs form) (verify_arguments form p x) (verify_result form x) (verify_last form p x)
   unfolding verifier verifying verified_as tables_left memo_left
-  verify_leaves own p x = linked-calls.verify_leaves 𝓛 𝓜 p x.sheet x.budget x.trace x.verdict
-  verify_leaves lent p x = linked-calls.verify_in_leaves 𝓛 𝓜 p x.sheet x.budget x.trace x.verdict x.tables x.memo
+  verify_leaves own p x = laws.verify_leaves p x.sheet x.budget x.trace x.verdict
+  verify_leaves lent p x = laws.verify_in_leaves p x.sheet x.budget x.trace x.verdict x.tables x.memo
 
   tables_untouched : (form : Form) (answer : Answer Sheet) (t : Tables) → SameIfOwn form t (tables_left form answer t)
   unfolding SameIfOwn tables_left
@@ -132,7 +125,7 @@ module _ {M : Type 1} {𝓤 : Ura M} (𝓛 : Logic 𝓤) (𝓜 : Model 𝓤 𝓛
   pub verify_ends : (form : Form) → EveryCallEnds (library.verify form)
   unfolding verified_as
   verify_ends form =
-      every_ends (verifier form) (verify_arguments form) _ (verify_result form) (verify_last form) (verify_leaves form) (λ p x others c.
+      every_ends (verifier fs form) (verify_arguments form) _ (verify_result form) (verify_last form) (verify_leaves form) (λ p x others c.
       let a = (verified x.sheet x.budget x.trace).answer in
       ∣ (
         verified_as form x,
@@ -167,7 +160,7 @@ module _ {M : Type 1} {𝓤 : Ura M} (𝓛 : Logic 𝓤) (𝓜 : Model 𝓤 𝓛
     verify_meant : ∥ ((y.answer ≡ z.answer) × VerifyParts y z) ∥₁
     unfolding verified_as
     verify_meant =
-        ∥∥₁_map (gave_meant (verifier form) (verify_arguments form) _ (verify_result form) (verify_last form) (verify_leaves form) x y g) (λ m.
+        ∥∥₁_map (gave_meant (verifier fs form) (verify_arguments form) _ (verify_result form) (verify_last form) (verify_leaves form) x y g) (λ m.
         let parts = verify_parts form m.0 x y m.2.2 m.2.4 m.2.5 in
         let a = (verified x.sheet x.budget x.trace).answer in
         let k : number_for a ≡ m.2.0 = let e = m.2.1 in cc in
@@ -197,10 +190,10 @@ module _ {M : Type 1} {𝓤 : Ura M} (𝓛 : Logic 𝓤) (𝓜 : Model 𝓤 𝓛
     abbrev check_last : (ℕ → Place) → ToCheck → List Argument
     check_last p x = checking form p x.sheet x.trace (checked_as form x).tables
 
-  check_leaves : (form : Form) (p : ℕ → Place) (x : ToCheck) → Leaves 𝓛 𝓜 (checker form) (check_arguments form p x) (check_result form x) (check_last form p x)
+  check_leaves : (form : Form) (p : ℕ → Place) (x : ToCheck) → Leaves 𝓛 𝓜 (checker fs form) (check_arguments form p x) (check_result form x) (check_last form p x)
   unfolding checker checking checked_as tables_left
-  check_leaves own p x = linked-calls.check_leaves 𝓛 𝓜 p x.sheet x.trace
-  check_leaves lent p x = linked-calls.check_in_leaves 𝓛 𝓜 p x.sheet x.trace x.tables
+  check_leaves own p x = laws.check_leaves p x.sheet x.trace
+  check_leaves lent p x = laws.check_in_leaves p x.sheet x.trace x.tables
 
   check_said : (sheet trace : List ℕ) → CheckRead (checked_number (checked sheet trace)) (checked sheet trace)
   check_said sheet trace = check_read (checked sheet trace) (checked_numbered sheet trace)
@@ -208,7 +201,7 @@ module _ {M : Type 1} {𝓤 : Ura M} (𝓛 : Logic 𝓤) (𝓜 : Model 𝓤 𝓛
   pub check_ends : (form : Form) → EveryCallEnds (library.check form)
   unfolding checked_as
   check_ends form =
-      every_ends (checker form) (check_arguments form) _ (check_result form) (check_last form) (check_leaves form) (λ p x others c.
+      every_ends (checker fs form) (check_arguments form) _ (check_result form) (check_last form) (check_leaves form) (λ p x others c.
       ∣ (
         checked_as form x,
         (checked_number (checked x.sheet x.trace), refl, refl, check_said x.sheet x.trace, tables_untouched form (reading x.sheet) x.tables),
@@ -226,7 +219,7 @@ module _ {M : Type 1} {𝓤 : Ura M} (𝓛 : Logic 𝓤) (𝓜 : Model 𝓤 𝓛
   pub check_fixed : (form : Form) (x : ToCheck) (y : AfterCheck) → Gave (library.check form) x y → y ≡ checked_as form x
   unfolding checked_as
   check_fixed form x y g =
-      let meant = gave_meant (checker form) (check_arguments form) _ (check_result form) (check_last form) (check_leaves form) x y g in
+      let meant = gave_meant (checker fs form) (check_arguments form) _ (check_result form) (check_last form) (check_leaves form) x y g in
       let answer = ∥∥₁_elim meant (bool_answer_set _ _) (λ m.
       let k : checked_number (checked x.sheet x.trace) ≡ m.2.0 = let e = m.2.1 in cc in
       check_one m.2.0 y.answer (checked x.sheet x.trace) m.2.3 (subst (λ (n : ℕ). CheckRead n (checked x.sheet x.trace)) k (check_said x.sheet x.trace))) in
@@ -245,26 +238,26 @@ module _ {M : Type 1} {𝓤 : Ura M} (𝓛 : Logic 𝓤) (𝓜 : Model 𝓤 𝓛
   abbrev print_last : (ℕ → Place) → ToPrint → List Argument
   print_last p x = to_print p x.sheet (write x.out 0 (printed x.sheet))
 
-  print_leaves : (p : ℕ → Place) (x : ToPrint) → Leaves 𝓛 𝓜 print-symbol.routine (print_arguments p x) (print_result x) (print_last p x)
-  print_leaves p x = linked-calls.print_leaves 𝓛 𝓜 p x.sheet x.out
+  print_leaves : (p : ℕ → Place) (x : ToPrint) → Leaves 𝓛 𝓜 fs.print (print_arguments p x) (print_result x) (print_last p x)
+  print_leaves p x = laws.print_leaves p x.sheet x.out
 
   -- The lines have room, so that they are read back.
   print_said : (p : ℕ → Place) (x : ToPrint) (others : List Argument) → Callable 𝓤 H 𝓜 (print_arguments p x) others → ∥ (take (length (printed x.sheet)) (write x.out 0 (printed x.sheet)) ≡ printed x.sheet) ∥₁
   unfolding AllFit Fits
   print_said p x others c =
-      ∥∥₁_map (linked-calls.print_within 𝓛 𝓜 p x.sheet x.out c.fit c.memory (Owned 𝓤 H 𝓜 others) c.owned) (λ l.
+      ∥∥₁_map (laws.print_within p x.sheet x.out c.fit c.memory (Owned 𝓤 H 𝓜 others) c.owned) (λ l.
       lines_back x.out (printed x.sheet) (subst (λ (n : ℕ). length (printed x.sheet) ≤ n) (sym c.fit.1.0) l))
 
   pub print_ends : EveryCallEnds library.print
   unfolding printed_as
   print_ends =
-      every_ends print-symbol.routine print_arguments _ print_result print_last print_leaves (λ p x others c.
+      every_ends fs.print print_arguments _ print_result print_last print_leaves (λ p x others c.
       ∥∥₁_map (print_said p x others c) (λ e. (printed_as x, (length (printed x.sheet), refl, refl, refl, sym e))))
 
   pub print_fixed : (x : ToPrint) (y : AfterPrint) → Gave library.print x y → y ≡ printed_as x
   unfolding printed_as
   print_fixed x y g =
-      let meant = gave_meant print-symbol.routine print_arguments _ print_result print_last print_leaves x y g in
+      let meant = gave_meant fs.print print_arguments _ print_result print_last print_leaves x y g in
       let out : y.out ≡ write x.out 0 (printed x.sheet) = ∥∥₁_elim meant (list_set _ _) (λ m. let e = m.2.2 in cc) in
       let lines : y.lines ≡ printed x.sheet = ∥∥₁_elim meant (list_set _ _) (λ m.
       ∥∥₁_elim (print_said m.0 x m.1.0 m.1.1) (list_set _ _) (λ said.
@@ -282,20 +275,20 @@ module _ {M : Type 1} {𝓤 : Ura M} (𝓛 : Logic 𝓤) (𝓜 : Model 𝓤 𝓛
   abbrev prepare_last : (ℕ → Place) → ToPrepare → List Argument
   prepare_last p x = to_prepare p x.sheet (tables_after (reading x.sheet) x.tables) (memory_after start_words (reading x.sheet) x.start)
 
-  prepare_leaves : (p : ℕ → Place) (x : ToPrepare) → Leaves 𝓛 𝓜 prepare-symbol.routine (prepare_arguments p x) (prepare_result x) (prepare_last p x)
-  prepare_leaves p x = linked-calls.prepare_leaves 𝓛 𝓜 p x.sheet x.tables x.start
+  prepare_leaves : (p : ℕ → Place) (x : ToPrepare) → Leaves 𝓛 𝓜 fs.prepare (prepare_arguments p x) (prepare_result x) (prepare_last p x)
+  prepare_leaves p x = laws.prepare_leaves p x.sheet x.tables x.start
 
   pub prepare_ends : EveryCallEnds library.prepare
   unfolding prepared_as
   prepare_ends =
-      every_ends prepare-symbol.routine prepare_arguments _ prepare_result prepare_last prepare_leaves (λ p x others c.
+      every_ends fs.prepare prepare_arguments _ prepare_result prepare_last prepare_leaves (λ p x others c.
       ∣ (prepared_as x, (number_for (reading x.sheet), refl, refl, done_read (reading x.sheet) (reading_numbered x.sheet))) ∣₁)
 
   module _ (x : ToPrepare) (y : AfterPrepare) (g : Gave library.prepare x y) where
     pub prepare_fixed : y ≡ prepared_as x
     unfolding prepared_as
     prepare_fixed =
-        let meant = gave_meant prepare-symbol.routine prepare_arguments _ prepare_result prepare_last prepare_leaves x y g in
+        let meant = gave_meant fs.prepare prepare_arguments _ prepare_result prepare_last prepare_leaves x y g in
         let answer : y.answer ≡ without_value (reading x.sheet) = ∥∥₁_elim meant (unit_answer_set _ _) (λ m.
         let k : number_for (reading x.sheet) ≡ m.2.0 = let e = m.2.1 in cc in
         done_one m.2.0 y.answer (without_value (reading x.sheet)) m.2.3 (subst (λ (n : ℕ). DoneRead n (without_value (reading x.sheet))) k (done_read (reading x.sheet) (reading_numbered x.sheet)))) in
@@ -310,7 +303,7 @@ module _ {M : Type 1} {𝓤 : Ura M} (𝓛 : Logic 𝓤) (𝓜 : Model 𝓤 𝓛
     pub prepare_sized : Sized x.tables.heads x.tables.nodes x.tables.sets
     unfolding AllFit Fits
     prepare_sized =
-        let meant = gave_meant prepare-symbol.routine prepare_arguments _ prepare_result prepare_last prepare_leaves x y g in (
+        let meant = gave_meant fs.prepare prepare_arguments _ prepare_result prepare_last prepare_leaves x y g in (
           ∥∥₁_elim meant (ℕ_set _ _) (λ m. m.1.1.fit.1.0),
           ∥∥₁_elim meant (ℕ_set _ _) (λ m. m.1.1.fit.1.1.0),
           ∥∥₁_elim meant (ℕ_set _ _) (λ m. m.1.1.fit.1.1.1.0),
@@ -323,15 +316,15 @@ module _ {M : Type 1} {𝓤 : Ura M} (𝓛 : Logic 𝓤) (𝓜 : Model 𝓤 𝓛
   abbrev step_last : (ℕ → Place) → ToStep → List Argument
   step_last p x = to_step p x.tables (words (stepped x.tables.heads x.tables.sets (of_words x.set) x.action x.reply)) x.action x.reply
 
-  step_leaves : (p : ℕ → Place) (x : ToStep) → Leaves 𝓛 𝓜 step-symbol.routine (step_arguments p x) vunit (step_last p x)
-  step_leaves p x = linked-calls.step_leaves 𝓛 𝓜 p x.tables x.set x.action x.reply
+  step_leaves : (p : ℕ → Place) (x : ToStep) → Leaves 𝓛 𝓜 fs.step (step_arguments p x) vunit (step_last p x)
+  step_leaves p x = laws.step_leaves p x.tables x.set x.action x.reply
 
   pub step_ends : EveryCallEnds library.step
-  step_ends = every_ends step-symbol.routine step_arguments _ (λ x. vunit) step_last step_leaves (λ p x others c. ∣ (_, (refl, refl)) ∣₁)
+  step_ends = every_ends fs.step step_arguments _ (λ x. vunit) step_last step_leaves (λ p x others c. ∣ (_, (refl, refl)) ∣₁)
 
   pub step_fixed : (x : ToStep) (set : List ℕ) → Gave library.step x set → set ≡ words (stepped x.tables.heads x.tables.sets (of_words x.set) x.action x.reply)
   step_fixed x set g =
-      ∥∥₁_elim (gave_meant step-symbol.routine step_arguments _ (λ x. vunit) step_last step_leaves x set g) (list_set _ _) (λ m. let e = m.2.1 in cc)
+      ∥∥₁_elim (gave_meant fs.step step_arguments _ (λ x. vunit) step_last step_leaves x set g) (list_set _ _) (λ m. let e = m.2.1 in cc)
 
   -- The pass.
   abbrev passed : ToPass → Passed
@@ -346,19 +339,19 @@ module _ {M : Type 1} {𝓤 : Ura M} (𝓛 : Logic 𝓤) (𝓜 : Model 𝓤 𝓛
   abbrev pass_last : (ℕ → Place) → ToPass → List Argument
   pass_last p x = to_pass p x.tables (words (passed x).kept) x.action x.reply ((passed x).evaluations ∷ [])
 
-  pass_leaves : (p : ℕ → Place) (x : ToPass) → Leaves 𝓛 𝓜 pass-symbol.routine (pass_arguments p x) (pass_result x) (pass_last p x)
-  pass_leaves p x = linked-calls.pass_leaves 𝓛 𝓜 p x.tables x.set x.action x.reply x.evaluations
+  pass_leaves : (p : ℕ → Place) (x : ToPass) → Leaves 𝓛 𝓜 fs.pass (pass_arguments p x) (pass_result x) (pass_last p x)
+  pass_leaves p x = laws.pass_leaves p x.tables x.set x.action x.reply x.evaluations
 
   pub pass_ends : EveryCallEnds library.pass
   unfolding passed_as
   pass_ends =
-      every_ends pass-symbol.routine pass_arguments _ pass_result pass_last pass_leaves (λ p x others c.
+      every_ends fs.pass pass_arguments _ pass_result pass_last pass_leaves (λ p x others c.
       ∣ (passed_as x, (flag_number (passed x).possible, refl, refl, flag_read (passed x).possible)) ∣₁)
 
   module _ (x : ToPass) (y : AfterPass) (g : Gave library.pass x y) where
     pass_meant : ∥ ((y.possible ≡ (passed x).possible) × (y.kept ≡ words (passed x).kept) × (y.evaluations ≡ (passed x).evaluations)) ∥₁
     pass_meant =
-        ∥∥₁_map (gave_meant pass-symbol.routine pass_arguments _ pass_result pass_last pass_leaves x y g) (λ m.
+        ∥∥₁_map (gave_meant fs.pass pass_arguments _ pass_result pass_last pass_leaves x y g) (λ m.
         let parts = pass_parts m.0 x.tables x.action x.reply _ _ _ _ (sym m.2.2) in
         let k : flag_number (passed x).possible ≡ m.2.0 = let e = m.2.1 in cc in
         (flag_one m.2.0 y.possible (passed x).possible m.2.3 (subst (λ (n : ℕ). FlagRead n (passed x).possible) k (flag_read (passed x).possible)), parts.0, parts.1))
@@ -378,21 +371,21 @@ module _ {M : Type 1} {𝓤 : Ura M} (𝓛 : Logic 𝓤) (𝓜 : Model 𝓤 𝓛
   abbrev stop : ToSettle → Stop
   stop x = settled x.tables.nodes x.tables.sets (of_words x.set) x.at
 
-  settle_leaves : (p : ℕ → Place) (x : ToSettle) → Leaves 𝓛 𝓜 settle-symbol.routine (settle_arguments p x) (vint w64 (place_number (stop x))) (settle_arguments p x)
-  settle_leaves p x = linked-calls.settle_leaves 𝓛 𝓜 p x.tables x.set x.at
+  settle_leaves : (p : ℕ → Place) (x : ToSettle) → Leaves 𝓛 𝓜 fs.settle (settle_arguments p x) (vint w64 (place_number (stop x))) (settle_arguments p x)
+  settle_leaves p x = laws.settle_leaves p x.tables x.set x.at
 
   settle_inside : (p : ℕ → Place) (x : ToSettle) (others : List Argument) → Callable 𝓤 H 𝓜 (settle_arguments p x) others → ∥ Inside (stop x) ∥₁
-  settle_inside p x others c = linked-calls.settle_inside 𝓛 𝓜 p x.tables x.set x.at c.fit c.memory (Owned 𝓤 H 𝓜 others) c.owned
+  settle_inside p x others c = laws.settle_inside p x.tables x.set x.at c.fit c.memory (Owned 𝓤 H 𝓜 others) c.owned
 
   pub settle_ends : EveryCallEnds library.settle
   settle_ends =
-      every_ends settle-symbol.routine settle_arguments _ (λ x. vint w64 (place_number (stop x))) settle_arguments settle_leaves (λ p x others c.
+      every_ends fs.settle settle_arguments _ (λ x. vint w64 (place_number (stop x))) settle_arguments settle_leaves (λ p x others c.
       ∥∥₁_map (settle_inside p x others c) (λ inside. (stop x, (place_number (stop x), refl, refl, place_read (stop x) inside))))
 
   module _ (x : ToSettle) (y : Stop) (g : Gave library.settle x y) where
     settle_meant : ∥ ((y ≡ stop x) × Inside (stop x)) ∥₁
     settle_meant =
-        ∥∥₁_elim (gave_meant settle-symbol.routine settle_arguments _ (λ x. vint w64 (place_number (stop x))) settle_arguments settle_leaves x y g) ∥∥₁_prop (λ m.
+        ∥∥₁_elim (gave_meant fs.settle settle_arguments _ (λ x. vint w64 (place_number (stop x))) settle_arguments settle_leaves x y g) ∥∥₁_prop (λ m.
         ∥∥₁_map (settle_inside m.0 x m.1.0 m.1.1) (λ inside.
         let k : place_number (stop x) ≡ m.2.0 = let e = m.2.1 in cc in
         (place_one m.2.0 y (stop x) m.2.3 (subst (λ (n : ℕ). PlaceRead n (stop x)) k (place_read (stop x) inside)), inside)))
@@ -410,16 +403,16 @@ module _ {M : Type 1} {𝓤 : Ura M} (𝓛 : Logic 𝓤) (𝓜 : Model 𝓤 𝓛
   abbrev know_result : ToKnow → Val
   know_result x = vint w8 (flag_number (known_by x.tables.sets (of_words x.set) x.formula))
 
-  know_leaves : (p : ℕ → Place) (x : ToKnow) → Leaves 𝓛 𝓜 known-symbol.routine (know_arguments p x) (know_result x) (know_arguments p x)
-  know_leaves p x = linked-calls.known_leaves 𝓛 𝓜 p x.tables x.set x.formula
+  know_leaves : (p : ℕ → Place) (x : ToKnow) → Leaves 𝓛 𝓜 fs.known (know_arguments p x) (know_result x) (know_arguments p x)
+  know_leaves p x = laws.known_leaves p x.tables x.set x.formula
 
   pub know_ends : EveryCallEnds library.know
-  know_ends = every_ends known-symbol.routine know_arguments _ know_result know_arguments know_leaves (λ p x others c.
+  know_ends = every_ends fs.known know_arguments _ know_result know_arguments know_leaves (λ p x others c.
       let told = known_by x.tables.sets (of_words x.set) x.formula in ∣ (told, (flag_number told, refl, refl, flag_read told)) ∣₁)
 
   pub know_fixed : (x : ToKnow) (b : Bool) → Gave library.know x b → b ≡ known_by x.tables.sets (of_words x.set) x.formula
   know_fixed x b g =
-      ∥∥₁_elim (gave_meant known-symbol.routine know_arguments _ know_result know_arguments know_leaves x b g) (Coded-set coded_bool _ _) (λ m.
+      ∥∥₁_elim (gave_meant fs.known know_arguments _ know_result know_arguments know_leaves x b g) (Coded-set coded_bool _ _) (λ m.
       let told = known_by x.tables.sets (of_words x.set) x.formula in
       let k : flag_number told ≡ m.2.0 = let e = m.2.1 in cc in
       flag_one m.2.0 b told m.2.3 (subst (λ (n : ℕ). FlagRead n told) k (flag_read told)))
@@ -435,15 +428,15 @@ module _ {M : Type 1} {𝓤 : Ura M} (𝓛 : Logic 𝓤) (𝓜 : Model 𝓤 𝓛
     abbrev load_last : (ℕ → Place) → ToLoad → List Argument
     load_last p x = loading form p x.sheet (loaded_as form x).kept (loaded_as form x).tables
 
-  load_leaves : (form : Form) (p : ℕ → Place) (x : ToLoad) → Leaves 𝓛 𝓜 (loader form) (load_arguments form p x) (load_result form x) (load_last form p x)
+  load_leaves : (form : Form) (p : ℕ → Place) (x : ToLoad) → Leaves 𝓛 𝓜 (loader fs form) (load_arguments form p x) (load_result form x) (load_last form p x)
   unfolding loader loading loaded_as tables_left
-  load_leaves own p x = linked-calls.load_leaves 𝓛 𝓜 p x.sheet x.kept
-  load_leaves lent p x = linked-calls.load_in_leaves 𝓛 𝓜 p x.sheet x.kept x.tables
+  load_leaves own p x = laws.load_leaves p x.sheet x.kept
+  load_leaves lent p x = laws.load_in_leaves p x.sheet x.kept x.tables
 
   pub load_ends : (form : Form) → EveryCallEnds (library.load form)
   unfolding loaded_as
   load_ends form =
-      every_ends (loader form) (load_arguments form) _ (load_result form) (load_last form) (load_leaves form) (λ p x others c.
+      every_ends (loader fs form) (load_arguments form) _ (load_result form) (load_last form) (load_leaves form) (λ p x others c.
       ∣ (
         loaded_as form x,
         (number_for (reading x.sheet), refl, refl, done_read (reading x.sheet) (reading_numbered x.sheet), tables_untouched form (reading x.sheet) x.tables),
@@ -469,7 +462,7 @@ module _ {M : Type 1} {𝓤 : Ura M} (𝓛 : Logic 𝓤) (𝓜 : Model 𝓤 𝓛
   unfolding loaded_as
   load_fixed form x y g =
       let a = without_value (reading x.sheet) in
-      let meant = gave_meant (loader form) (load_arguments form) _ (load_result form) (load_last form) (load_leaves form) x y g in
+      let meant = gave_meant (loader fs form) (load_arguments form) _ (load_result form) (load_last form) (load_leaves form) x y g in
       let answer : y.answer ≡ a = ∥∥₁_elim meant (unit_answer_set _ _) (λ m.
       let k : number_for (reading x.sheet) ≡ m.2.0 = let e = m.2.1 in cc in
       done_one m.2.0 y.answer a m.2.3 (subst (λ (n : ℕ). DoneRead n a) k (done_read (reading x.sheet) (reading_numbered x.sheet)))) in
@@ -488,15 +481,15 @@ module _ {M : Type 1} {𝓤 : Ura M} (𝓛 : Logic 𝓤) (𝓜 : Model 𝓤 𝓛
     abbrev next_last : (ℕ → Place) → ToNext → List Argument
     next_last p x = telling form p x.kept (told_as form x).told (told_as form x).tables
 
-  next_leaves : (form : Form) (p : ℕ → Place) (x : ToNext) → Leaves 𝓛 𝓜 (teller form) (next_arguments form p x) (next_result form x) (next_last form p x)
+  next_leaves : (form : Form) (p : ℕ → Place) (x : ToNext) → Leaves 𝓛 𝓜 (teller fs form) (next_arguments form p x) (next_result form x) (next_last form p x)
   unfolding teller telling told_as tables_left
-  next_leaves own p x = linked-calls.next_leaves 𝓛 𝓜 p x.kept x.told
-  next_leaves lent p x = linked-calls.next_in_leaves 𝓛 𝓜 p x.kept x.told x.tables
+  next_leaves own p x = laws.next_leaves p x.kept x.told
+  next_leaves lent p x = laws.next_in_leaves p x.kept x.told x.tables
 
   pub next_ends : (form : Form) → EveryCallEnds (library.next form)
   unfolding told_as
   next_ends form =
-      every_ends (teller form) (next_arguments form) _ (next_result form) (next_last form) (next_leaves form) (λ p x others c.
+      every_ends (teller fs form) (next_arguments form) _ (next_result form) (next_last form) (next_leaves form) (λ p x others c.
       ∣ (
         told_as form x,
         (number_for (next_on x.kept), refl, refl, value_read told_numbers (next_on x.kept) x.told (next_numbered x.kept), tables_untouched form (sheet_in x.kept) x.tables),
@@ -512,7 +505,7 @@ module _ {M : Type 1} {𝓤 : Ura M} (𝓛 : Logic 𝓤) (𝓜 : Model 𝓤 𝓛
   unfolding told_as
   next_fixed form x y g =
       let a = next_on x.kept in
-      let meant = gave_meant (teller form) (next_arguments form) _ (next_result form) (next_last form) (next_leaves form) x y g in
+      let meant = gave_meant (teller fs form) (next_arguments form) _ (next_result form) (next_last form) (next_leaves form) x y g in
       let answer : y.answer ≡ a = ∥∥₁_elim meant (told_answer_set _ _) (λ m.
       let k : number_for a ≡ m.2.0 = let e = m.2.1 in cc in
       let told = (next_parts form m.0 x y m.2.2 m.2.4).2 in
@@ -534,15 +527,15 @@ module _ {M : Type 1} {𝓤 : Ura M} (𝓛 : Logic 𝓤) (𝓜 : Model 𝓤 𝓛
     abbrev report_last : (ℕ → Place) → ToReport → List Argument
     report_last p x = reporting form p (reported_as form x).kept x.reply (reported_as form x).tables
 
-  report_leaves : (form : Form) (p : ℕ → Place) (x : ToReport) → Leaves 𝓛 𝓜 (reporter form) (report_arguments form p x) (report_result form x) (report_last form p x)
+  report_leaves : (form : Form) (p : ℕ → Place) (x : ToReport) → Leaves 𝓛 𝓜 (reporter fs form) (report_arguments form p x) (report_result form x) (report_last form p x)
   unfolding reporter reporting reported_as tables_left
-  report_leaves own p x = linked-calls.report_leaves 𝓛 𝓜 p x.kept x.reply
-  report_leaves lent p x = linked-calls.report_in_leaves 𝓛 𝓜 p x.kept x.reply x.tables
+  report_leaves own p x = laws.report_leaves p x.kept x.reply
+  report_leaves lent p x = laws.report_in_leaves p x.kept x.reply x.tables
 
   pub report_ends : (form : Form) → EveryCallEnds (library.report form)
   unfolding reported_as
   report_ends form =
-      every_ends (reporter form) (report_arguments form) _ (report_result form) (report_last form) (report_leaves form) (λ p x others c.
+      every_ends (reporter fs form) (report_arguments form) _ (report_result form) (report_last form) (report_leaves form) (λ p x others c.
       let a = report_on x.kept x.reply in
       ∣ (reported_as form x, (number_for a, refl, refl, done_read a (report_numbered x.kept x.reply), tables_untouched form (sheet_in x.kept) x.tables)) ∣₁)
 
@@ -556,7 +549,7 @@ module _ {M : Type 1} {𝓤 : Ura M} (𝓛 : Logic 𝓤) (𝓜 : Model 𝓤 𝓛
   unfolding reported_as
   report_fixed form x y g =
       let a = report_on x.kept x.reply in
-      let meant = gave_meant (reporter form) (report_arguments form) _ (report_result form) (report_last form) (report_leaves form) x y g in
+      let meant = gave_meant (reporter fs form) (report_arguments form) _ (report_result form) (report_last form) (report_leaves form) x y g in
       let answer : y.answer ≡ without_value a = ∥∥₁_elim meant (unit_answer_set _ _) (λ m.
       let k : number_for a ≡ m.2.0 = let e = m.2.1 in cc in
       done_one m.2.0 y.answer (without_value a) m.2.3 (subst (λ (n : ℕ). DoneRead n (without_value a)) k (done_read a (report_numbered x.kept x.reply)))) in

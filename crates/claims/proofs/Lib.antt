@@ -1,5 +1,6 @@
 pub mod SetLaws
 pub mod NumberLaws
+pub mod CallLaws
 pub mod FunctionRuns
 pub mod StreamRuns
 pub mod RunnerRuns
@@ -13,4 +14,5 @@ pub mod ReleaseLaws
 pub mod PassLaws
 pub mod SupportLaws
 pub mod StreamSupport
+pub mod Programs
 pub mod Theorem

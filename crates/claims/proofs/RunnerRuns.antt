@@ -7,7 +7,7 @@ use mathlib.Core.Path.{◌≡◌, refl, sym, ap, subst, ◌∙◌}
 use mathlib.Core.Logic.{∥∥₁_prop, ∥∥₁_elim, ∥∥₁_map}
 use lib.ListN.{length, get_or, replicate, length-replicate}
 use seplogic.Ra.Ura.{Ura}
-use seplogic.Ra.TreeShare.{full_share}
+use base.Fraction.{full_share}
 use mir.Syntax.{w8}
 use base.Logic.{SProp, ent, sep, emp, via, assoc∗, assoc', comm∗, mono_l, mono_r, fst∗, snd∗, emp∗}
 use prog.Memory.{Memory}
@@ -29,7 +29,8 @@ use Rattle.runner.proofs.ListLaws.{RunnerContracts, Going}
 use Rattle.recovery.specs.Arguments.{Tables, bytes_at, lent_tables, record_at, told_lent}
 use Rattle.claims.specs.Library.{Library, Gave, ToLoad, AfterLoad, ToNext, AfterNext, ToReport, AfterReport, EveryCallEnds}
 use Rattle.claims.specs.Terms.{loaded_as, told_as, reported_as}
-use Rattle.claims.specs.Linked.{loading, telling, reporting, InMemory, Does, linked}
+use Rattle.claims.specs.Linked.{Functions, loading, telling, reporting, InMemory, Does, linked}
+use Rattle.claims.proofs.CallLaws.{Laws}
 use Rattle.claims.proofs.FunctionRuns as functions
 
 -- An answer is done or refused without its value as with it.
@@ -72,21 +73,21 @@ tables_small : AllSmall (lent_tables nowhere nowhere nowhere zero_tables)
 unfolding AllSmall
 tables_small = (zeros_under (2 ^ 16) (omega arith) (3 * head_most), (zeros_under (2 ^ 16) (omega arith) (3 * node_most), (zeros_under (2 ^ 64) (omega arith) (4 * set_most), tt)))
 
-module _ {M : Type 1} {𝓤 : Ura M} (𝓛 : Logic 𝓤) (𝓜 : Model 𝓤 𝓛.H) where
+module _ {M : Type 1} {𝓤 : Ura M} (𝓛 : Logic 𝓤) (𝓜 : Model 𝓤 𝓛.H) (fs : Functions) (laws : Laws 𝓛 𝓜 fs) where
   open 𝓛 use {H}
 
   abbrev library : Library {1}
-  library = linked 𝓤 H 𝓜
+  library = linked 𝓤 H 𝓜 fs
 
   pub runner_contracts : RunnerContracts library.runner
   unfolding Gave
   runner_contracts = record { answered = go }
     where
-      go : (form : Form) (c : Call) (k : InMemory 𝓤 H 𝓜) (a : CallAnswer) (l : InMemory 𝓤 H 𝓜) → Does 𝓤 H 𝓜 form c k a l
+      go : (form : Form) (c : Call) (k : InMemory 𝓤 H 𝓜) (a : CallAnswer) (l : InMemory 𝓤 H 𝓜) → Does 𝓤 H 𝓜 fs form c k a l
           → (a ≡ answer_on k.kept c) × (l.kept ≡ record_left k.kept c)
-      go form c k a l (Does.load f x y call gave same b) = let w = load_as form k.kept x y (functions.load_fixed 𝓛 𝓜 form x y (call, gave)) in (w.0, b.left ∙ w.1)
-      go form c k a l (Does.next f x y call gave same b) = let w = next_as form k.kept x y same (functions.next_fixed 𝓛 𝓜 form x y (call, gave)) in (w.0, b.left ∙ w.1)
-      go form c k a l (Does.report f x y call gave same b) = let w = report_as form k.kept x y same (functions.report_fixed 𝓛 𝓜 form x y (call, gave)) in (w.0, b.left ∙ w.1)
+      go form c k a l (Does.load f x y call gave same b) = let w = load_as form k.kept x y (functions.load_fixed 𝓛 𝓜 fs laws form x y (call, gave)) in (w.0, b.left ∙ w.1)
+      go form c k a l (Does.next f x y call gave same b) = let w = next_as form k.kept x y same (functions.next_fixed 𝓛 𝓜 fs laws form x y (call, gave)) in (w.0, b.left ∙ w.1)
+      go form c k a l (Does.report f x y call gave same b) = let w = report_as form k.kept x y same (functions.report_fixed 𝓛 𝓜 fs laws form x y (call, gave)) in (w.0, b.left ∙ w.1)
 
   abbrev ◌∗◌ : SProp 𝓤 → SProp 𝓤 → SProp 𝓤
   P ∗ Q = sep 𝓤 P Q
@@ -202,7 +203,7 @@ module _ {M : Type 1} {𝓤 : Ura M} (𝓛 : Logic 𝓤) (𝓜 : Model 𝓤 𝓛
       lying (p 0) (p 1) (p 2) r (told_lent (p 3) told ∷ lent_tables (p 4) (p 5) (p 6) t) σ (owns others) (f.0, (f.1.0, (f.1.1.0, tt))) s
 
   abbrev Gone : Form → Call → InMemory 𝓤 H 𝓜 → Type 1
-  Gone form c k = (m : InMemory 𝓤 H 𝓜) × (k.kept ≡ m.kept) × (a : CallAnswer) × (l : InMemory 𝓤 H 𝓜) × Does 𝓤 H 𝓜 form c m a l
+  Gone form c k = (m : InMemory 𝓤 H 𝓜) × (k.kept ≡ m.kept) × (a : CallAnswer) × (l : InMemory 𝓤 H 𝓜) × Does 𝓤 H 𝓜 fs form c m a l
 
   next_goes : (form : Form) (k : InMemory 𝓤 H 𝓜) → ∥ Gone form runner.next k ∥₁
   unfolding EveryCallEnds
@@ -210,7 +211,7 @@ module _ {M : Type 1} {𝓤 : Ura M} (𝓛 : Logic 𝓤) (𝓜 : Model 𝓤 𝓛
       ∥∥₁_elim (next_ready form k) ∥∥₁_prop (λ c.
       let x : ToNext = record { kept = k.kept; told = 0 ∷ 0 ∷ []; tables = zero_tables } in
       let p = c.0 in
-      ∥∥₁_map (functions.next_ends 𝓛 𝓜 form x (p, k.others, c.1)) (λ g.
+      ∥∥₁_map (functions.next_ends 𝓛 𝓜 fs laws form x (p, k.others, c.1)) (λ g.
       let y = g.0 in
       let after = g.1.2.after in
       let last = g.1.3.2 in
@@ -267,7 +268,7 @@ module _ {M : Type 1} {𝓤 : Ura M} (𝓛 : Logic 𝓤) (𝓜 : Model 𝓤 𝓛
       ∥∥₁_elim (report_ready form n small k) ∥∥₁_prop (λ c.
       let x : ToReport = record { kept = k.kept; reply = n; tables = zero_tables } in
       let p = c.0 in
-      ∥∥₁_map (functions.report_ends 𝓛 𝓜 form x (p, k.others, c.1)) (λ g.
+      ∥∥₁_map (functions.report_ends 𝓛 𝓜 fs laws form x (p, k.others, c.1)) (λ g.
       let y = g.0 in
       let after = g.1.2.after in
       let last = g.1.3.2 in
@@ -341,7 +342,7 @@ module _ {M : Type 1} {𝓤 : Ura M} (𝓛 : Logic 𝓤) (𝓜 : Model 𝓤 𝓛
       ∥∥₁_elim (load_ready form bytes short small k) ∥∥₁_prop (λ c.
       let x : ToLoad = record { sheet = bytes; kept = k.kept; tables = zero_tables } in
       let p = c.0 in
-      ∥∥₁_map (functions.load_ends 𝓛 𝓜 form x (p, k.others, c.1)) (λ g.
+      ∥∥₁_map (functions.load_ends 𝓛 𝓜 fs laws form x (p, k.others, c.1)) (λ g.
       let y = g.0 in
       let after = g.1.2.after in
       let last = g.1.3.2 in

@@ -23,12 +23,9 @@ use Rattle.release.specs.Feeding.{fed, is_done, ended, read_by, cleared_all}
 use Rattle.recovery.specs.Numbers.{flag_number, lent_release, release_numbers, FlagRead}
 use Rattle.recovery.proofs.ReadLaws.{flag_read, flag_one}
 use Rattle.recovery.specs.Arguments.{Tables, tables_after_all, to_feed, to_end, to_line}
-use Rattle.recovery.proofs.CallLaws as linked-calls
-use Rattle.recovery.proofs.recovery_figures_feed.Symbol as feed-symbol
-use Rattle.recovery.proofs.recovery_figures_end.Symbol as finish-symbol
-use Rattle.recovery.proofs.recovery_figures_print.Symbol as line-symbol
 use Rattle.claims.specs.Library.{Library, Gave, EveryCallEnds, AfterPrint, ToFeed, AfterFeed, ToFinish, ToLine}
-use Rattle.claims.specs.Linked.{linked}
+use Rattle.claims.specs.Linked.{Functions, linked}
+use Rattle.claims.proofs.CallLaws.{Laws}
 use Rattle.claims.specs.Terms.{fed_as, finished_as, line_as}
 use Rattle.claims.proofs.FunctionRuns.{list_set, every_ends, gave_meant}
 
@@ -41,11 +38,11 @@ feed_parts : (p : ℕ → Place) (piece numbers begun : List ℕ) (t : Tables) (
     → to_feed p piece numbers begun t memo ≡ to_feed p piece numbers' begun' t' memo' → FeedParts numbers begun t memo numbers' begun' t' memo'
 feed_parts p piece numbers begun t memo numbers' begun' t' memo' e = (cc, cc, cc, cc, cc, cc)
 
-module _ {M : Type 1} {𝓤 : Ura M} (𝓛 : Logic 𝓤) (𝓜 : Model 𝓤 𝓛.H) where
+module _ {M : Type 1} {𝓤 : Ura M} (𝓛 : Logic 𝓤) (𝓜 : Model 𝓤 𝓛.H) (fs : Functions) (laws : Laws 𝓛 𝓜 fs) where
   open 𝓛 use {H}
 
   abbrev library : Library {1}
-  library = linked 𝓤 H 𝓜
+  library = linked 𝓤 H 𝓜 fs
 
   -- Feeding.
   abbrev feed_state : ToFeed → Release
@@ -65,12 +62,12 @@ module _ {M : Type 1} {𝓤 : Ura M} (𝓛 : Logic 𝓤) (𝓜 : Model 𝓤 𝓛
       to_feed p x.piece (release_numbers (fed (feed_state x) x.piece)) (fed (feed_state x) x.piece).begun.bytes
       (tables_after_all (read_by (feed_state x) x.piece) x.tables) (cleared_all (read_by (feed_state x) x.piece) x.memo)
 
-  feed_leaves : (p : ℕ → Place) (x : ToFeed) → Leaves 𝓛 𝓜 feed-symbol.routine (feed_arguments p x) (feed_result x) (feed_last p x)
-  feed_leaves p x = linked-calls.feed_leaves 𝓛 𝓜 p x.piece x.numbers x.begun x.tables x.memo
+  feed_leaves : (p : ℕ → Place) (x : ToFeed) → Leaves 𝓛 𝓜 fs.feed (feed_arguments p x) (feed_result x) (feed_last p x)
+  feed_leaves p x = laws.feed_leaves p x.piece x.numbers x.begun x.tables x.memo
 
   pub feed_ends : EveryCallEnds library.feed
   unfolding fed_as
-  feed_ends = every_ends 𝓛 𝓜 feed-symbol.routine feed_arguments _ feed_result feed_last feed_leaves (λ p x others c.
+  feed_ends = every_ends 𝓛 𝓜 fs laws fs.feed feed_arguments _ feed_result feed_last feed_leaves (λ p x others c.
       ∣ (fed_as x, (flag_number (feed_done x), refl, refl, flag_read (feed_done x))) ∣₁)
 
   module _ (x : ToFeed) (y : AfterFeed) (g : Gave library.feed x y) where
@@ -80,7 +77,7 @@ module _ {M : Type 1} {𝓤 : Ura M} (𝓛 : Logic 𝓤) (𝓜 : Model 𝓤 𝓛
     feed_meant : ∥ ((y.done ≡ z.done) × FeedParts y.numbers y.begun y.tables y.memo z.numbers z.begun z.tables z.memo) ∥₁
     unfolding fed_as
     feed_meant =
-        ∥∥₁_map (gave_meant 𝓛 𝓜 feed-symbol.routine feed_arguments _ feed_result feed_last feed_leaves x y g) (λ m.
+        ∥∥₁_map (gave_meant 𝓛 𝓜 fs laws fs.feed feed_arguments _ feed_result feed_last feed_leaves x y g) (λ m.
         let parts = feed_parts m.0 x.piece _ _ _ _ _ _ _ _ (sym m.2.2) in
         let k : flag_number (feed_done x) ≡ m.2.0 = let e = m.2.1 in cc in
         (flag_one m.2.0 y.done (feed_done x) m.2.3 (subst (λ (n : ℕ). FlagRead n (feed_done x)) k (flag_read (feed_done x))), parts))
@@ -106,16 +103,16 @@ module _ {M : Type 1} {𝓤 : Ura M} (𝓛 : Logic 𝓤) (𝓜 : Model 𝓤 𝓛
   abbrev finish_last : (ℕ → Place) → ToFinish → List Argument
   finish_last p x = to_end p x.numbers x.begun (finish_figures x)
 
-  finish_leaves : (p : ℕ → Place) (x : ToFinish) → Leaves 𝓛 𝓜 finish-symbol.routine (finish_arguments p x) vunit (finish_last p x)
-  finish_leaves p x = linked-calls.end_leaves 𝓛 𝓜 p x.numbers x.begun x.figures
+  finish_leaves : (p : ℕ → Place) (x : ToFinish) → Leaves 𝓛 𝓜 fs.finish (finish_arguments p x) vunit (finish_last p x)
+  finish_leaves p x = laws.end_leaves p x.numbers x.begun x.figures
 
   pub finish_ends : EveryCallEnds library.finish
-  finish_ends = every_ends 𝓛 𝓜 finish-symbol.routine finish_arguments _ (λ x. vunit) finish_last finish_leaves (λ p x others c. ∣ (finish_figures x, (refl, refl)) ∣₁)
+  finish_ends = every_ends 𝓛 𝓜 fs laws fs.finish finish_arguments _ (λ x. vunit) finish_last finish_leaves (λ p x others c. ∣ (finish_figures x, (refl, refl)) ∣₁)
 
   pub finish_fixed : (x : ToFinish) (figures : List ℕ) → Gave library.finish x figures → figures ≡ finished_as x
   unfolding finished_as
   finish_fixed x figures g =
-      ∥∥₁_elim (gave_meant 𝓛 𝓜 finish-symbol.routine finish_arguments _ (λ x. vunit) finish_last finish_leaves x figures g) (list_set _ _) (λ m.
+      ∥∥₁_elim (gave_meant 𝓛 𝓜 fs laws fs.finish finish_arguments _ (λ x. vunit) finish_last finish_leaves x figures g) (list_set _ _) (λ m.
       let e = m.2.1 in cc)
 
   -- The line.
@@ -128,26 +125,26 @@ module _ {M : Type 1} {𝓤 : Ura M} (𝓛 : Logic 𝓤) (𝓜 : Model 𝓤 𝓛
   abbrev line_last : (ℕ → Place) → ToLine → List Argument
   line_last p x = to_line p x.figures (write x.out 0 (numbers_line x.figures))
 
-  line_leaves : (p : ℕ → Place) (x : ToLine) → Leaves 𝓛 𝓜 line-symbol.routine (line_arguments p x) (line_result x) (line_last p x)
-  line_leaves p x = linked-calls.line_leaves 𝓛 𝓜 p x.figures x.out
+  line_leaves : (p : ℕ → Place) (x : ToLine) → Leaves 𝓛 𝓜 fs.line (line_arguments p x) (line_result x) (line_last p x)
+  line_leaves p x = laws.line_leaves p x.figures x.out
 
   -- The line has room, so it is read back.
   line_said : (p : ℕ → Place) (x : ToLine) (others : List Argument) → Callable 𝓤 H 𝓜 (line_arguments p x) others
       → ∥ (take (length (numbers_line x.figures)) (write x.out 0 (numbers_line x.figures)) ≡ numbers_line x.figures) ∥₁
   unfolding AllFit Fits
   line_said p x others c =
-      ∥∥₁_map (linked-calls.line_within 𝓛 𝓜 p x.figures x.out c.fit c.memory (Owned 𝓤 H 𝓜 others) c.owned) (λ l.
+      ∥∥₁_map (laws.line_within p x.figures x.out c.fit c.memory (Owned 𝓤 H 𝓜 others) c.owned) (λ l.
       lines_back x.out (numbers_line x.figures) (subst (λ (n : ℕ). length (numbers_line x.figures) ≤ n) (sym c.fit.1.0) l))
 
   pub line_ends : EveryCallEnds library.line
   unfolding line_as
-  line_ends = every_ends 𝓛 𝓜 line-symbol.routine line_arguments _ line_result line_last line_leaves (λ p x others c.
+  line_ends = every_ends 𝓛 𝓜 fs laws fs.line line_arguments _ line_result line_last line_leaves (λ p x others c.
       ∥∥₁_map (line_said p x others c) (λ e. (line_as x, (length (numbers_line x.figures), refl, refl, refl, sym e))))
 
   pub line_fixed : (x : ToLine) (y : AfterPrint) → Gave library.line x y → y ≡ line_as x
   unfolding line_as
   line_fixed x y g =
-      let meant = gave_meant 𝓛 𝓜 line-symbol.routine line_arguments _ line_result line_last line_leaves x y g in
+      let meant = gave_meant 𝓛 𝓜 fs laws fs.line line_arguments _ line_result line_last line_leaves x y g in
       let out : y.out ≡ write x.out 0 (numbers_line x.figures) = ∥∥₁_elim meant (list_set _ _) (λ m. let e = m.2.2 in cc) in
       let lines : y.lines ≡ numbers_line x.figures = ∥∥₁_elim meant (list_set _ _) (λ m.
       ∥∥₁_elim (line_said m.0 x m.1.0 m.1.1) (list_set _ _) (λ said.

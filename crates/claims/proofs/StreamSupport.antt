@@ -23,7 +23,8 @@ use Rattle.runner.specs.Calls.{own}
 use Rattle.recovery.specs.Numbers.{lent_release, release_numbers}
 use Rattle.recovery.specs.Arguments.{Tables, tables_after, tables_after_all, heads_width, nodes_width, sets_width, memo_width, verdict_width, state_width, figures_width}
 use Rattle.claims.specs.Library.{Library, Gave, EveryCallEnds, CanBeCalled, ToVerify, ToFeed, AfterFeed, ToFinish}
-use Rattle.claims.specs.Linked.{linked}
+use Rattle.claims.specs.Linked.{Functions, linked}
+use Rattle.claims.proofs.CallLaws.{Laws}
 use Rattle.claims.specs.Terms.{fed_as}
 use Rattle.claims.specs.Release.{Fed, nothing, piece, Figured, Answered}
 use Rattle.claims.specs.Release as spec
@@ -100,11 +101,11 @@ fed_as_fits x f t m = (
   all_memo (sheets_fed x) x.memo m,
 )
 
-module _ {M : Type 1} {𝓤 : Ura M} (𝓛 : Logic 𝓤) (𝓜 : Model 𝓤 𝓛.H) (contracts : Contracts (linked 𝓤 𝓛.H 𝓜)) where
+module _ {M : Type 1} {𝓤 : Ura M} (𝓛 : Logic 𝓤) (𝓜 : Model 𝓤 𝓛.H) (fs : Functions) (laws : Laws 𝓛 𝓜 fs) (contracts : Contracts (linked 𝓤 𝓛.H 𝓜 fs)) where
   open 𝓛 use {H}
 
   abbrev library : Library {1}
-  library = linked 𝓤 H 𝓜
+  library = linked 𝓤 H 𝓜 fs
 
   -- The memory after the bytes of a stream, as it was fed.
   abbrev After : List ℕ → Type 1
@@ -124,8 +125,8 @@ module _ {M : Type 1} {𝓤 : Ura M} (𝓛 : Logic 𝓤) (𝓜 : Model 𝓤 𝓛
   feed_one stream p h b a =
       let fits = memory_fits stream h a in
       let x : ToFeed = record { piece = p; numbers = a.0; begun = a.1; tables = zero_tables; memo = replicate memo_width 0 } in
-      ∥∥₁_elim (supports.can_feed 𝓛 𝓜 x (b, fits.0, fits.1, zero_tables_law, zeros_fit 64 memo_width (omega arith))) ∥∥₁_prop (λ call.
-      ∥∥₁_map (streams.feed_ends 𝓛 𝓜 x call) (λ y.
+      ∥∥₁_elim (supports.can_feed 𝓛 𝓜 fs laws x (b, fits.0, fits.1, zero_tables_law, zeros_fit 64 memo_width (omega arith))) ∥∥₁_prop (λ call.
+      ∥∥₁_map (streams.feed_ends 𝓛 𝓜 fs laws x call) (λ y.
       (y.0.numbers, y.0.begun, piece x y.0 a.2 (call, y.1))))
 
   feed_all : (pieces : List (List ℕ)) → AllBytes pieces → (stream : List ℕ) → AllUnder 256 stream → After stream → ∥ After (stream ++ flat_map (λ p. p) pieces) ∥₁
@@ -157,8 +158,8 @@ module _ {M : Type 1} {𝓤 : Ura M} (𝓛 : Logic 𝓤) (𝓜 : Model 𝓤 𝓛
       ∥∥₁_elim (feed_all pieces b [] (none_under 256) (_, _, nothing)) ∥∥₁_prop (λ a.
       let fits = memory_fits (flat_map (λ p. p) pieces) (bytes_all pieces b) a in
       let x : ToFinish = record { numbers = a.0; begun = a.1; figures = replicate figures_width 0 } in
-      ∥∥₁_elim (supports.can_finish 𝓛 𝓜 x (fits.0, fits.1, zeros_fit 64 figures_width (omega arith))) ∥∥₁_prop (λ call.
-      ∥∥₁_map (streams.finish_ends 𝓛 𝓜 x call) (λ y.
+      ∥∥₁_elim (supports.can_finish 𝓛 𝓜 fs laws x (fits.0, fits.1, zeros_fit 64 figures_width (omega arith))) ∥∥₁_prop (λ call.
+      ∥∥₁_map (streams.finish_ends 𝓛 𝓜 fs laws x call) (λ y.
       (y.0, record { asked = x; fed = a.2; gave = (call, y.1) }))))
     where
       none_under : (bound : ℕ) → AllUnder bound []
@@ -173,6 +174,6 @@ module _ {M : Type 1} {𝓤 : Ura M} (𝓛 : Logic 𝓤) (𝓜 : Model 𝓤 𝓛
       let trace : Bytes (replicate longest_trace 0) = record { short = omega (arith, length-replicate {A = ℕ} longest_trace 0); small = zeros_under (2 ^ 8) (omega arith) longest_trace } in
       let fits : VerifyFits x = record { sheet = b.0; budget = omega arith; trace = trace; verdict = zeros_fit 64 verdict_width (omega arith); tables = zero_tables_law; memo = zeros_fit 64 memo_width (omega arith) } in
       ∥∥₁_elim (sheets_answered sheets b.1) ∥∥₁_prop (λ later.
-      ∥∥₁_elim (supports.can_verify 𝓛 𝓜 own x fits) ∥∥₁_prop (λ call.
-      ∥∥₁_map (functions.verify_ends 𝓛 𝓜 own x call) (λ y.
+      ∥∥₁_elim (supports.can_verify 𝓛 𝓜 fs laws own x fits) ∥∥₁_prop (λ call.
+      ∥∥₁_map (functions.verify_ends 𝓛 𝓜 fs laws own x call) (λ y.
       (y.0.answer ∷ later.0, spec.next own x y.0 (call, y.1) refl (omega (arith, length-replicate {A = ℕ} longest_trace 0)) later.1))))

@@ -35,7 +35,8 @@ use Rattle.recovery.specs.Numbers.{memory_after, start_words, lengths_of}
 use Rattle.recovery.specs.Arguments.{Tables, tables_after, record_at, to_read, to_prepare, to_step, to_pass, to_settle, to_know, to_print, told_width, evaluations_width, memo_width, state_width, figures_width, to_feed, to_end, to_line}
 use Rattle.release.specs.Framing.{most_begun}
 use Rattle.claims.specs.Library.{Library, Gave, CanBeCalled, ToPrepare, AfterPrepare, ToStep, ToPass, AfterPass, ToSettle}
-use Rattle.claims.specs.Linked.{verifying, checking, loading, telling, reporting, linked}
+use Rattle.claims.specs.Linked.{Functions, verifying, checking, loading, telling, reporting, linked}
+use Rattle.claims.proofs.CallLaws.{Laws}
 use Rattle.claims.specs.Terms.{prepared_as, passed_as}
 use Rattle.claims.specs.Support.{Numbers, Bytes, TablesFit, SetFits, VerifyFits, RecordFits}
 use Rattle.claims.proofs.FunctionRuns.{prepare_fixed, step_fixed, pass_fixed, settle_within}
@@ -99,11 +100,11 @@ tables_fit sheet t f = record {
 abbrev nowhere : ℕ → Place
 nowhere i = record { block = 0; at = 0 }
 
-module _ {M : Type 1} {𝓤 : Ura M} (𝓛 : Logic 𝓤) (𝓜 : Model 𝓤 𝓛.H) where
+module _ {M : Type 1} {𝓤 : Ura M} (𝓛 : Logic 𝓤) (𝓜 : Model 𝓤 𝓛.H) (fs : Functions) (laws : Laws 𝓛 𝓜 fs) where
   open 𝓛 use {H}
 
   abbrev library : Library {1}
-  library = linked 𝓤 H 𝓜
+  library = linked 𝓤 H 𝓜 fs
 
   -- There is a call, with nothing beside it.
   some_call : (args : List Argument) → AllFit args → AllSmall args → ∥ ((p : ℕ → Place) × (others : List Argument) × Callable 𝓤 H 𝓜 (placed args p) others) ∥₁
@@ -176,12 +177,12 @@ module _ {M : Type 1} {𝓤 : Ura M} (𝓛 : Logic 𝓤) (𝓜 : Model 𝓤 𝓛
   pub prepared_fit : (x : ToPrepare) (y : AfterPrepare) → Gave library.prepare x y → TablesFit x.tables → SetFits x.start → TablesFit y.tables × SetFits y.start
   unfolding prepared_as
   prepared_fit x y g t s =
-      subst (λ (z : AfterPrepare). TablesFit z.tables × SetFits z.start) (sym (prepare_fixed 𝓛 𝓜 x y g))
+      subst (λ (z : AfterPrepare). TablesFit z.tables × SetFits z.start) (sym (prepare_fixed 𝓛 𝓜 fs laws x y g))
       (tables_fit x.sheet x.tables t, start_fit (reading x.sheet) x.start s)
 
   pub stepped_fit : (x : ToStep) (set : List ℕ) → Gave library.step x set → SetFits set
   stepped_fit x set g =
-      subst SetFits (sym (step_fixed 𝓛 𝓜 x set g))
+      subst SetFits (sym (step_fixed 𝓛 𝓜 fs laws x set g))
       (words_fit (stepped x.tables.heads x.tables.sets (of_words x.set) x.action x.reply)
       (step_fits x.tables.heads x.tables.sets (of_words x.set) x.action x.reply))
 
@@ -190,13 +191,13 @@ module _ {M : Type 1} {𝓤 : Ura M} (𝓛 : Logic 𝓤) (𝓜 : Model 𝓤 𝓛
   passed_fit x y g =
       let set = of_words x.set in
       let reply = reply_states x.tables.sets (head_at x.tables.heads x.action) x.reply in
-      subst (λ (z : AfterPass). SetFits z.kept × Numbers 64 evaluations_width (z.evaluations ∷ [])) (sym (pass_fixed 𝓛 𝓜 x y g))
+      subst (λ (z : AfterPass). SetFits z.kept × Numbers 64 evaluations_width (z.evaluations ∷ [])) (sym (pass_fixed 𝓛 𝓜 fs laws x y g))
       (words_fit (kept_by set reply) (kept_fits set reply), count_fits set)
 
   pub settled_fit : (x : ToSettle) (node a : ℕ) → Gave library.settle x (Stop.Act node a) → (node + 1 < 2 ^ 64) × (a < 2 ^ 64)
   unfolding Inside
   settled_fit x node a g =
-      let inside = settle_within 𝓛 𝓜 x (Stop.Act node a) g in (
+      let inside = settle_within 𝓛 𝓜 fs laws x (Stop.Act node a) g in (
         elim (dec_lt (node + 1) (2 ^ 64)) [ yes l ↦ l | no n ↦ absurd (∥∥₁_elim inside ⊥_prop (λ i. omega (arith, i.0, n))) ],
         elim (dec_lt a (2 ^ 64)) [ yes l ↦ l | no n ↦ absurd (∥∥₁_elim inside ⊥_prop (λ i. omega (arith, i.1, n))) ],
       )

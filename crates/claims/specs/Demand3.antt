@@ -6,7 +6,7 @@ use Rattle.format.specs.Truth.{holds}
 use Rattle.format.specs.Format.{gives, reading}
 use Rattle.semantics.specs.Runs.{History, IsRun, last_state, Holds}
 use Rattle.semantics.specs.Replies.{RepliesOfRun}
-use Rattle.semantics.specs.Verdict.{history_count, valid, invalid, stopped, trace, LongEnough}
+use Rattle.semantics.specs.Verdict.{history_count, valid, invalid, stopped, LongEnough}
 use Rattle.routine.specs.Memory.{set_at}
 use Rattle.runner.specs.Calls.{Form, next, report, CallAnswer, done, act as acting, ended}
 use Rattle.runner.specs.Calls.{accepted_in, Fresh, Listed, FullReplies, NextInLonger}

@@ -1,5 +1,6 @@
 pub mod Library
 pub mod Linked
+pub mod Program
 pub mod Terms
 pub mod Demand1
 pub mod Demand2

@@ -1,5 +1,5 @@
 -- What the demands speak of: functions, by what they take and give, their calls, and what a call gave.
-use Rattle.std.specs.Prelude.{ℕ, List, [], Bool}
+use Rattle.std.specs.Prelude.{ℕ, List, Bool}
 use Rattle.format.specs.Format.{Answer}
 use Rattle.semantics.specs.Verdict.{Verdict}
 use Rattle.semantics.specs.Replies.{Told}

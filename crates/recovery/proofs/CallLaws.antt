@@ -1,22 +1,20 @@
 -- What a call of each function that C links leaves, for every model: from any memory in which it can be made it ends, with the number, and with the numbers in every piece of
 -- lent memory, that its contract says. A contract made weaker, or one that asks for something, is refused here. Assumes nothing.
 use Prim.Native.Nat.{ℕ, ◌≤◌}
-use mathlib.Core.List.{List, [], ◌∷◌, ◌++◌}
-use mathlib.Core.Path.{◌≡◌, refl, ap, subst, ◌∙◌}
-use mathlib.Core.Logic.{∥∥₁_map}
+use mathlib.Core.List.{List, [], ◌∷◌}
 use lib.ListN.{length}
 use seplogic.Ra.Ura.{Ura}
 use mir.Syntax.{w8, w64}
-use mir.Val.{Val, vint, vunit}
-use base.Logic.{SProp, sep, id⊢}
+use mir.Val.{vint, vunit}
+use base.Logic.{SProp, sep}
 use prog.Memory.{Memory}
 use prog.Model.{Model}
 use types.Logic.{Logic}
 use prog.Wired.{Wired}
 use contract.Running.{Running, strict}
 use contract.Adequate.{Satisfies}
-use Rattle.machine.specs.Calls.{Place, reads, writes, number, value_of, values_of, Fits, AllFit, Owned}
-use Rattle.machine.proofs.Passing.{bound, Leaves, so, said}
+use Rattle.machine.specs.Calls.{Place, AllFit, Owned}
+use Rattle.machine.proofs.Passing.{Leaves}
 use Rattle.lists.specs.Lists.{write}
 use Rattle.states.specs.Sets.{words, of_words}
 use Rattle.format.specs.Format.{reading}
@@ -29,365 +27,145 @@ use Rattle.progression.specs.Machine.{stepped, passed_by, settled, known_by, Ins
 use Rattle.verifier.specs.Answers.{cleared}
 use Rattle.runner.specs.declared.calls.Record.{Record}
 use Rattle.runner.specs.Records.{loaded, sheet_in, next_on, report_on, record_after}
-use Rattle.runner.proofs.HeldLaws.{kept_sheet}
 use Rattle.release.specs.Counting.{meant_by}
 use Rattle.release.specs.Feeding.{fed, is_done, ended, read_by, cleared_all}
-use Rattle.recovery.specs.Numbers.{memory_after, start_words, place_number, flag_number, verdict_numbers, checked_number, lent_record, lengths_of, told_numbers, lent_release, release_numbers}
-use Rattle.recovery.specs.Arguments.{Tables, tables_after, bytes_at, record_pieces, lent_tables, to_read, to_prepare, to_step, to_pass, to_settle, to_know, to_verify, to_verify_in, to_check, to_check_in, to_print, to_load, to_load_in, to_next, to_next_in, to_report, to_report_in, tables_after_all, to_feed, to_end, to_line}
-use Rattle.recovery.specs.contracts.recovery_read as read
-use Rattle.recovery.proofs.recovery_read.Reads as read-reads
+use Rattle.recovery.specs.Numbers.{memory_after, start_words, place_number, flag_number, verdict_numbers, checked_number, told_numbers, lent_release, release_numbers}
+use Rattle.recovery.specs.Arguments.{Tables, tables_after, to_read, to_prepare, to_step, to_pass, to_settle, to_know, to_verify, to_verify_in, to_check, to_check_in, to_print, to_load, to_load_in, to_next, to_next_in, to_report, to_report_in, tables_after_all, to_feed, to_end, to_line}
+use Rattle.recovery.proofs.Leaving as any
 use Rattle.recovery.proofs.recovery_read.Met as read-met
 use Rattle.recovery.proofs.recovery_read.Symbol as read-symbol
-use Rattle.recovery.specs.contracts.recovery_prepare as prepare
-use Rattle.recovery.proofs.recovery_prepare.Reads as prepare-reads
 use Rattle.recovery.proofs.recovery_prepare.Met as prepare-met
 use Rattle.recovery.proofs.recovery_prepare.Symbol as prepare-symbol
-use Rattle.recovery.specs.contracts.recovery_step as step
-use Rattle.recovery.proofs.recovery_step.Reads as step-reads
 use Rattle.recovery.proofs.recovery_step.Met as step-met
 use Rattle.recovery.proofs.recovery_step.Symbol as step-symbol
-use Rattle.recovery.specs.contracts.recovery_pass as pass
-use Rattle.recovery.proofs.recovery_pass.Reads as pass-reads
 use Rattle.recovery.proofs.recovery_pass.Met as pass-met
 use Rattle.recovery.proofs.recovery_pass.Symbol as pass-symbol
-use Rattle.recovery.specs.contracts.recovery_settle as settle
-use Rattle.recovery.proofs.recovery_settle.Reads as settle-reads
 use Rattle.recovery.proofs.recovery_settle.Met as settle-met
 use Rattle.recovery.proofs.recovery_settle.Symbol as settle-symbol
-use Rattle.recovery.specs.contracts.recovery_known as known
-use Rattle.recovery.proofs.recovery_known.Reads as known-reads
 use Rattle.recovery.proofs.recovery_known.Met as known-met
 use Rattle.recovery.proofs.recovery_known.Symbol as known-symbol
-use Rattle.recovery.specs.contracts.recovery_verify as verify
-use Rattle.recovery.proofs.recovery_verify.Reads as verify-reads
 use Rattle.recovery.proofs.recovery_verify.Met as verify-met
 use Rattle.recovery.proofs.recovery_verify.Symbol as verify-symbol
-use Rattle.recovery.specs.contracts.recovery_verify_in as verify-in
-use Rattle.recovery.proofs.recovery_verify_in.Reads as verify-in-reads
 use Rattle.recovery.proofs.recovery_verify_in.Met as verify-in-met
 use Rattle.recovery.proofs.recovery_verify_in.Symbol as verify-in-symbol
-use Rattle.recovery.specs.contracts.recovery_check as check
-use Rattle.recovery.proofs.recovery_check.Reads as check-reads
 use Rattle.recovery.proofs.recovery_check.Met as check-met
 use Rattle.recovery.proofs.recovery_check.Symbol as check-symbol
-use Rattle.recovery.specs.contracts.recovery_check_in as check-in
-use Rattle.recovery.proofs.recovery_check_in.Reads as check-in-reads
 use Rattle.recovery.proofs.recovery_check_in.Met as check-in-met
 use Rattle.recovery.proofs.recovery_check_in.Symbol as check-in-symbol
-use Rattle.recovery.specs.contracts.recovery_print as print
-use Rattle.recovery.proofs.recovery_print.Reads as print-reads
 use Rattle.recovery.proofs.recovery_print.Met as print-met
 use Rattle.recovery.proofs.recovery_print.Symbol as print-symbol
-use Rattle.recovery.specs.contracts.recovery_load as load
-use Rattle.recovery.proofs.recovery_load.Reads as load-reads
 use Rattle.recovery.proofs.recovery_load.Met as load-met
 use Rattle.recovery.proofs.recovery_load.Symbol as load-symbol
-use Rattle.recovery.specs.contracts.recovery_load_in as load-in
-use Rattle.recovery.proofs.recovery_load_in.Reads as load-in-reads
 use Rattle.recovery.proofs.recovery_load_in.Met as load-in-met
 use Rattle.recovery.proofs.recovery_load_in.Symbol as load-in-symbol
-use Rattle.recovery.specs.contracts.recovery_next as next
-use Rattle.recovery.proofs.recovery_next.Reads as next-reads
 use Rattle.recovery.proofs.recovery_next.Met as next-met
 use Rattle.recovery.proofs.recovery_next.Symbol as next-symbol
-use Rattle.recovery.specs.contracts.recovery_next_in as next-in
-use Rattle.recovery.proofs.recovery_next_in.Reads as next-in-reads
 use Rattle.recovery.proofs.recovery_next_in.Met as next-in-met
 use Rattle.recovery.proofs.recovery_next_in.Symbol as next-in-symbol
-use Rattle.recovery.specs.contracts.recovery_report as report
-use Rattle.recovery.proofs.recovery_report.Reads as report-reads
 use Rattle.recovery.proofs.recovery_report.Met as report-met
 use Rattle.recovery.proofs.recovery_report.Symbol as report-symbol
-use Rattle.recovery.specs.contracts.recovery_report_in as report_in_law
-use Rattle.recovery.proofs.recovery_report_in.Reads as report-in-reads
 use Rattle.recovery.proofs.recovery_report_in.Met as report-in-met
 use Rattle.recovery.proofs.recovery_report_in.Symbol as report-in-symbol
-use Rattle.recovery.specs.contracts.recovery_figures_feed as feed
-use Rattle.recovery.proofs.recovery_figures_feed.Reads as feed-reads
 use Rattle.recovery.proofs.recovery_figures_feed.Met as feed-met
 use Rattle.recovery.proofs.recovery_figures_feed.Symbol as feed-symbol
-use Rattle.recovery.specs.contracts.recovery_figures_end as end
-use Rattle.recovery.proofs.recovery_figures_end.Reads as end_reads
 use Rattle.recovery.proofs.recovery_figures_end.Met as end-met
 use Rattle.recovery.proofs.recovery_figures_end.Symbol as end-symbol
-use Rattle.recovery.specs.contracts.recovery_figures_print as line
-use Rattle.recovery.proofs.recovery_figures_print.Reads as line_reads_lem
 use Rattle.recovery.proofs.recovery_figures_print.Met as line-met
 use Rattle.recovery.proofs.recovery_figures_print.Symbol as line-symbol
-
-head_is : {v u : Val} → ◌≡◌ {A = List Val} (v ∷ []) (u ∷ []) → v ≡ u
-head_is e = cc
 
 module _ {M : Type 1} {𝓤 : Ura M} (𝓛 : Logic 𝓤) (𝓜 : Model 𝓤 𝓛.H) (𝓡 : Running 𝓤 𝓛.H 𝓜) (p : ℕ → Place) where
   open 𝓛 use {H}
 
   pub read_leaves : Wired 𝓡.env read-symbol.code → (sheet : List ℕ)
       → Leaves 𝓛 𝓜 (𝓡.env read-symbol.name) (to_read p sheet) (vint w8 (number_for (reading sheet))) (to_read p sheet)
-  unfolding values_of value_of
-  read_leaves wired sheet fit σ F s =
-      let args = to_read p sheet in
-      ∥∥₁_map
-      (said 𝓛 𝓜 𝓡 read.signature (𝓡.env read-symbol.name) (read.spec 𝓛 𝓜.mem 𝓡.returns) (read-met.met 𝓤 𝓛 𝓜 (strict 𝓤 H 𝓜 𝓡) wired) (read.ended).kept args (bound args) (λ ns. tt)
-      (λ ns. read-reads.Learnt (bound args ns).0 (bound args ns).3) (λ ns t. id⊢ 𝓤 _) (λ ns. refl) (λ ns. id⊢ 𝓤 _) (λ ns ws. ws) (λ ns ws. id⊢ 𝓤 _) fit σ F s)
-      (λ q.
-      let f = q.7 in
-      so 𝓛 𝓜 (𝓡.env read-symbol.name) args σ F q.1 _ _ _ q.2 (head_is q.6.0 ∙ ap (vint w8) f) (refl) (q.5, q.8.0, q.8.1, q.8.2))
+  read_leaves wired = any.read_leaves 𝓛 𝓜 𝓡 p (𝓡.env read-symbol.name) (read-met.met 𝓤 𝓛 𝓜 (strict 𝓤 H 𝓜 𝓡) wired)
 
   pub prepare_leaves : Wired 𝓡.env prepare-symbol.code → (sheet : List ℕ) (t : Tables) (start : List ℕ)
       → Leaves 𝓛 𝓜 (𝓡.env prepare-symbol.name) (to_prepare p sheet t start) (vint w8 (number_for (reading sheet))) (to_prepare p sheet (tables_after (reading sheet) t) (memory_after start_words (reading sheet) start))
-  unfolding values_of value_of
-  prepare_leaves wired sheet t start fit σ F s =
-      let args = to_prepare p sheet t start in
-      ∥∥₁_map
-      (said 𝓛 𝓜 𝓡 prepare.signature (𝓡.env prepare-symbol.name) (prepare.spec 𝓛 𝓜.mem 𝓡.returns) (prepare-met.met 𝓤 𝓛 𝓜 (strict 𝓤 H 𝓜 𝓡) wired) (prepare.ended).kept args (bound args) (λ ns. tt)
-      (λ ns. prepare-reads.Learnt (bound args ns).0 (bound args ns).3) (λ ns t. id⊢ 𝓤 _) (λ ns. refl) (λ ns. id⊢ 𝓤 _) (λ ns ws. ws) (λ ns ws. id⊢ 𝓤 _) fit σ F s)
-      (λ q.
-      let f = q.7 in
-      so 𝓛 𝓜 (𝓡.env prepare-symbol.name) args σ F q.1 _ _ _ q.2 (head_is q.6.0 ∙ ap (vint w8) f.0) (λ i. to_prepare p sheet (record { heads = f.2.0 i; nodes = f.2.1 i; sets = f.2.2 i }) (f.1 i)) (q.5, q.8.0, q.8.1, q.8.2))
+  prepare_leaves wired = any.prepare_leaves 𝓛 𝓜 𝓡 p (𝓡.env prepare-symbol.name) (prepare-met.met 𝓤 𝓛 𝓜 (strict 𝓤 H 𝓜 𝓡) wired)
 
   pub step_leaves : Wired 𝓡.env step-symbol.code → (t : Tables) (set : List ℕ) (action reply : ℕ)
       → Leaves 𝓛 𝓜 (𝓡.env step-symbol.name) (to_step p t set action reply) (vunit) (to_step p t (words (stepped t.heads t.sets (of_words set) action reply)) action reply)
-  unfolding values_of value_of
-  step_leaves wired t set action reply fit σ F s =
-      let args = to_step p t set action reply in
-      ∥∥₁_map
-      (said 𝓛 𝓜 𝓡 step.signature (𝓡.env step-symbol.name) (step.spec 𝓛 𝓜.mem 𝓡.returns) (step-met.met 𝓤 𝓛 𝓜 (strict 𝓤 H 𝓜 𝓡) wired) (step.ended).kept args (bound args) (λ ns. tt)
-      (λ ns. step-reads.Learnt (bound args ns).0 (bound args ns).3) (λ ns t. id⊢ 𝓤 _) (λ ns. refl) (λ ns. id⊢ 𝓤 _) (λ ns ws. ws) (λ ns ws. id⊢ 𝓤 _) fit σ F s)
-      (λ q.
-      let f = q.7 in
-      so 𝓛 𝓜 (𝓡.env step-symbol.name) args σ F q.1 _ _ _ q.2 (head_is q.6) (λ i. to_step p t (f i) action reply) (q.5, q.8.0, q.8.1, q.8.2))
+  step_leaves wired = any.step_leaves 𝓛 𝓜 𝓡 p (𝓡.env step-symbol.name) (step-met.met 𝓤 𝓛 𝓜 (strict 𝓤 H 𝓜 𝓡) wired)
 
   pub pass_leaves : Wired 𝓡.env pass-symbol.code → (t : Tables) (set : List ℕ) (action reply : ℕ) (evaluations : List ℕ)
       → Leaves 𝓛 𝓜 (𝓡.env pass-symbol.name) (to_pass p t set action reply evaluations) (vint w8 (flag_number (passed_by t.heads t.sets (of_words set) action reply).possible))
       (to_pass p t (words (passed_by t.heads t.sets (of_words set) action reply).kept) action reply ((passed_by t.heads t.sets (of_words set) action reply).evaluations ∷ []))
-  unfolding values_of value_of
-  pass_leaves wired t set action reply evaluations fit σ F s =
-      let args = to_pass p t set action reply evaluations in
-      ∥∥₁_map
-      (said 𝓛 𝓜 𝓡 pass.signature (𝓡.env pass-symbol.name) (pass.spec 𝓛 𝓜.mem 𝓡.returns) (pass-met.met 𝓤 𝓛 𝓜 (strict 𝓤 H 𝓜 𝓡) wired) (pass.ended).kept args (bound args) (λ ns. tt)
-      (λ ns. pass-reads.Learnt (bound args ns).0 (bound args ns).3) (λ ns t. id⊢ 𝓤 _) (λ ns. refl) (λ ns. id⊢ 𝓤 _) (λ ns ws. ws) (λ ns ws. id⊢ 𝓤 _) fit σ F s)
-      (λ q.
-      let f = q.7 in
-      so 𝓛 𝓜 (𝓡.env pass-symbol.name) args σ F q.1 _ _ _ q.2 (head_is q.6.0 ∙ ap (vint w8) f.0) (λ i. to_pass p t (f.1 i) action reply (f.2 i)) (q.5, q.8.0, q.8.1, q.8.2))
+  pass_leaves wired = any.pass_leaves 𝓛 𝓜 𝓡 p (𝓡.env pass-symbol.name) (pass-met.met 𝓤 𝓛 𝓜 (strict 𝓤 H 𝓜 𝓡) wired)
 
   pub settle_leaves : Wired 𝓡.env settle-symbol.code → (t : Tables) (set : List ℕ) (at : ℕ)
       → Leaves 𝓛 𝓜 (𝓡.env settle-symbol.name) (to_settle p t set at) (vint w64 (place_number (settled t.nodes t.sets (of_words set) at))) (to_settle p t set at)
-  unfolding values_of value_of
-  settle_leaves wired t set at fit σ F s =
-      let args = to_settle p t set at in
-      ∥∥₁_map
-      (said 𝓛 𝓜 𝓡 settle.signature (𝓡.env settle-symbol.name) (settle.spec 𝓛 𝓜.mem 𝓡.returns) (settle-met.met 𝓤 𝓛 𝓜 (strict 𝓤 H 𝓜 𝓡) wired) (settle.ended).kept args (bound args) (λ ns. tt)
-      (λ ns. settle-reads.Learnt (bound args ns).0 (bound args ns).3) (λ ns t. id⊢ 𝓤 _) (λ ns. refl) (λ ns. id⊢ 𝓤 _) (λ ns ws. ws) (λ ns ws. id⊢ 𝓤 _) fit σ F s)
-      (λ q.
-      let f = q.7 in
-      so 𝓛 𝓜 (𝓡.env settle-symbol.name) args σ F q.1 _ _ _ q.2 (head_is q.6.0 ∙ ap (vint w64) f.0) (refl) (q.5, q.8.0, q.8.1, q.8.2))
+  settle_leaves wired = any.settle_leaves 𝓛 𝓜 𝓡 p (𝓡.env settle-symbol.name) (settle-met.met 𝓤 𝓛 𝓜 (strict 𝓤 H 𝓜 𝓡) wired)
 
   -- And what it tells stands inside the memory.
   pub settle_inside : Wired 𝓡.env settle-symbol.code → (t : Tables) (set : List ℕ) (at : ℕ) → AllFit (to_settle p t set at) → (σ : Memory) (F : SProp 𝓤) → Satisfies 𝓤 H 𝓜 σ (sep 𝓤 (Owned 𝓤 H 𝓜 (to_settle p t set at)) F)
       → ∥ Inside (settled t.nodes t.sets (of_words set) at) ∥₁
-  unfolding values_of value_of
-  settle_inside wired t set at fit σ F s =
-      let args = to_settle p t set at in
-      ∥∥₁_map
-      (said 𝓛 𝓜 𝓡 settle.signature (𝓡.env settle-symbol.name) (settle.spec 𝓛 𝓜.mem 𝓡.returns) (settle-met.met 𝓤 𝓛 𝓜 (strict 𝓤 H 𝓜 𝓡) wired) (settle.ended).kept args (bound args) (λ ns. tt)
-      (λ ns. settle-reads.Learnt (bound args ns).0 (bound args ns).3) (λ ns t. id⊢ 𝓤 _) (λ ns. refl) (λ ns. id⊢ 𝓤 _) (λ ns ws. ws) (λ ns ws. id⊢ 𝓤 _) fit σ F s) (λ q. q.7.1)
+  settle_inside wired = any.settle_inside 𝓛 𝓜 𝓡 p (𝓡.env settle-symbol.name) (settle-met.met 𝓤 𝓛 𝓜 (strict 𝓤 H 𝓜 𝓡) wired)
 
   pub known_leaves : Wired 𝓡.env known-symbol.code → (t : Tables) (set : List ℕ) (k : ℕ)
       → Leaves 𝓛 𝓜 (𝓡.env known-symbol.name) (to_know p t set k) (vint w8 (flag_number (known_by t.sets (of_words set) k))) (to_know p t set k)
-  unfolding values_of value_of
-  known_leaves wired t set k fit σ F s =
-      let args = to_know p t set k in
-      ∥∥₁_map
-      (said 𝓛 𝓜 𝓡 known.signature (𝓡.env known-symbol.name) (known.spec 𝓛 𝓜.mem 𝓡.returns) (known-met.met 𝓤 𝓛 𝓜 (strict 𝓤 H 𝓜 𝓡) wired) (known.ended).kept args (bound args) (λ ns. tt)
-      (λ ns. known-reads.Learnt (bound args ns).0 (bound args ns).3) (λ ns t. id⊢ 𝓤 _) (λ ns. refl) (λ ns. id⊢ 𝓤 _) (λ ns ws. ws) (λ ns ws. id⊢ 𝓤 _) fit σ F s)
-      (λ q.
-      let f = q.7 in
-      so 𝓛 𝓜 (𝓡.env known-symbol.name) args σ F q.1 _ _ _ q.2 (head_is q.6.0 ∙ ap (vint w8) f) (refl) (q.5, q.8.0, q.8.1, q.8.2))
+  known_leaves wired = any.known_leaves 𝓛 𝓜 𝓡 p (𝓡.env known-symbol.name) (known-met.met 𝓤 𝓛 𝓜 (strict 𝓤 H 𝓜 𝓡) wired)
 
   pub verify_leaves : Wired 𝓡.env verify-symbol.code → (sheet : List ℕ) (budget : ℕ) (trace verdict : List ℕ)
       → Leaves 𝓛 𝓜 (𝓡.env verify-symbol.name) (to_verify p sheet budget trace verdict) (vint w8 (number_for (verified sheet budget trace).answer)) (to_verify p sheet budget (verified sheet budget trace).memory (memory_after verdict_numbers (verified sheet budget trace).answer verdict))
-  unfolding values_of value_of
-  verify_leaves wired sheet budget trace verdict fit σ F s =
-      let args = to_verify p sheet budget trace verdict in
-      ∥∥₁_map
-      (said 𝓛 𝓜 𝓡 verify.signature (𝓡.env verify-symbol.name) (verify.spec 𝓛 𝓜.mem 𝓡.returns) (verify-met.met 𝓤 𝓛 𝓜 (strict 𝓤 H 𝓜 𝓡) wired) (verify.ended).kept args (bound args) (λ ns. tt)
-      (λ ns. verify-reads.Learnt (bound args ns).0 (bound args ns).3) (λ ns t. id⊢ 𝓤 _) (λ ns. refl) (λ ns. id⊢ 𝓤 _) (λ ns ws. ws) (λ ns ws. id⊢ 𝓤 _) fit σ F s)
-      (λ q.
-      let v = verified sheet budget trace in
-      let f : (q.3 ≡ number_for v.answer) × (q.4.1.1.0 ≡ v.memory) × (q.4.1.1.1.0 ≡ memory_after verdict_numbers v.answer verdict) = q.7 in
-      so 𝓛 𝓜 (𝓡.env verify-symbol.name) args σ F q.1 _ _ _ q.2 (head_is q.6.0 ∙ ap (vint w8) f.0) (λ i. to_verify p sheet budget (f.1 i) (f.2 i)) (q.5, q.8.0, q.8.1, q.8.2))
+  verify_leaves wired = any.verify_leaves 𝓛 𝓜 𝓡 p (𝓡.env verify-symbol.name) (verify-met.met 𝓤 𝓛 𝓜 (strict 𝓤 H 𝓜 𝓡) wired)
 
   pub verify_in_leaves : Wired 𝓡.env verify-in-symbol.code → (sheet : List ℕ) (budget : ℕ) (trace verdict : List ℕ) (t : Tables) (memo : List ℕ)
       → Leaves 𝓛 𝓜 (𝓡.env verify-in-symbol.name) (to_verify_in p sheet budget trace verdict t memo) (vint w8 (number_for (verified sheet budget trace).answer)) (to_verify_in p sheet budget (verified sheet budget trace).memory (memory_after verdict_numbers (verified sheet budget trace).answer verdict) (tables_after (admitted sheet trace) t) (cleared (admitted sheet trace) memo))
-  unfolding values_of value_of AllFit Fits
-  verify_in_leaves wired sheet budget trace verdict t memo fit σ F s =
-      let args = to_verify_in p sheet budget trace verdict t memo in
-      ∥∥₁_map
-      (said 𝓛 𝓜 𝓡 verify-in.signature (𝓡.env verify-in-symbol.name) (verify-in.spec 𝓛 𝓜.mem 𝓡.returns) (verify-in-met.met 𝓤 𝓛 𝓜 (strict 𝓤 H 𝓜 𝓡) wired) (verify-in.ended).kept args (bound args) (λ ns. tt)
-      (λ ns. verify-in-reads.Learnt (bound args ns).0 (bound args ns).3) (λ ns t. id⊢ 𝓤 _) (λ ns. refl) (λ ns. id⊢ 𝓤 _) (λ ns ws. ws) (λ ns ws. id⊢ 𝓤 _) fit σ F s)
-      (λ q.
-      let f = q.7 in
-      so 𝓛 𝓜 (𝓡.env verify-in-symbol.name) args σ F q.1 _ _ _ q.2 (head_is q.6.0 ∙ ap (vint w8) (f.0 (fit.1.1.1.1.0, fit.1.1.1.1.1.0, fit.1.1.1.1.1.1.0)).0) (λ i. to_verify_in p sheet budget ((f.0 (fit.1.1.1.1.0, fit.1.1.1.1.1.0, fit.1.1.1.1.1.1.0)).1 i) ((f.0 (fit.1.1.1.1.0, fit.1.1.1.1.1.0, fit.1.1.1.1.1.1.0)).2 i) (record { heads = f.2.0 i; nodes = f.2.1 i; sets = f.2.2 i }) (f.1 i)) (q.5, q.8.0, q.8.1, q.8.2))
+  verify_in_leaves wired = any.verify_in_leaves 𝓛 𝓜 𝓡 p (𝓡.env verify-in-symbol.name) (verify-in-met.met 𝓤 𝓛 𝓜 (strict 𝓤 H 𝓜 𝓡) wired)
 
   pub check_leaves : Wired 𝓡.env check-symbol.code → (sheet trace : List ℕ)
       → Leaves 𝓛 𝓜 (𝓡.env check-symbol.name) (to_check p sheet trace) (vint w8 (checked_number (checked sheet trace))) (to_check p sheet trace)
-  unfolding values_of value_of
-  check_leaves wired sheet trace fit σ F s =
-      let args = to_check p sheet trace in
-      ∥∥₁_map
-      (said 𝓛 𝓜 𝓡 check.signature (𝓡.env check-symbol.name) (check.spec 𝓛 𝓜.mem 𝓡.returns) (check-met.met 𝓤 𝓛 𝓜 (strict 𝓤 H 𝓜 𝓡) wired) (check.ended).kept args (bound args) (λ ns. tt)
-      (λ ns. check-reads.Learnt (bound args ns).0 (bound args ns).3) (λ ns t. id⊢ 𝓤 _) (λ ns. refl) (λ ns. id⊢ 𝓤 _) (λ ns ws. ws) (λ ns ws. id⊢ 𝓤 _) fit σ F s)
-      (λ q.
-      let f = q.7 in
-      so 𝓛 𝓜 (𝓡.env check-symbol.name) args σ F q.1 _ _ _ q.2 (head_is q.6.0 ∙ ap (vint w8) f) (refl) (q.5, q.8.0, q.8.1, q.8.2))
+  check_leaves wired = any.check_leaves 𝓛 𝓜 𝓡 p (𝓡.env check-symbol.name) (check-met.met 𝓤 𝓛 𝓜 (strict 𝓤 H 𝓜 𝓡) wired)
 
   pub check_in_leaves : Wired 𝓡.env check-in-symbol.code → (sheet trace : List ℕ) (t : Tables)
       → Leaves 𝓛 𝓜 (𝓡.env check-in-symbol.name) (to_check_in p sheet trace t) (vint w8 (checked_number (checked sheet trace))) (to_check_in p sheet trace (tables_after (reading sheet) t))
-  unfolding values_of value_of AllFit Fits
-  check_in_leaves wired sheet trace t fit σ F s =
-      let args = to_check_in p sheet trace t in
-      ∥∥₁_map
-      (said 𝓛 𝓜 𝓡 check-in.signature (𝓡.env check-in-symbol.name) (check-in.spec 𝓛 𝓜.mem 𝓡.returns) (check-in-met.met 𝓤 𝓛 𝓜 (strict 𝓤 H 𝓜 𝓡) wired) (check-in.ended).kept args (bound args) (λ ns. tt)
-      (λ ns. check-in-reads.Learnt (bound args ns).0 (bound args ns).3) (λ ns t. id⊢ 𝓤 _) (λ ns. refl) (λ ns. id⊢ 𝓤 _) (λ ns ws. ws) (λ ns ws. id⊢ 𝓤 _) fit σ F s)
-      (λ q.
-      let f = q.7 in
-      so 𝓛 𝓜 (𝓡.env check-in-symbol.name) args σ F q.1 _ _ _ q.2 (head_is q.6.0 ∙ ap (vint w8) (f.0 (fit.1.1.0, fit.1.1.1.0, fit.1.1.1.1.0))) (λ i. to_check_in p sheet trace (record { heads = f.1.0 i; nodes = f.1.1 i; sets = f.1.2 i })) (q.5, q.8.0, q.8.1, q.8.2))
+  check_in_leaves wired = any.check_in_leaves 𝓛 𝓜 𝓡 p (𝓡.env check-in-symbol.name) (check-in-met.met 𝓤 𝓛 𝓜 (strict 𝓤 H 𝓜 𝓡) wired)
 
   pub print_leaves : Wired 𝓡.env print-symbol.code → (sheet out : List ℕ)
       → Leaves 𝓛 𝓜 (𝓡.env print-symbol.name) (to_print p sheet out) (vint w64 (length (printed sheet))) (to_print p sheet (write out 0 (printed sheet)))
-  unfolding values_of value_of
-  print_leaves wired sheet out fit σ F s =
-      let args = to_print p sheet out in
-      ∥∥₁_map
-      (said 𝓛 𝓜 𝓡 print.signature (𝓡.env print-symbol.name) (print.spec 𝓛 𝓜.mem 𝓡.returns) (print-met.met 𝓤 𝓛 𝓜 (strict 𝓤 H 𝓜 𝓡) wired) (print.ended).kept args (bound args) (λ ns. tt)
-      (λ ns. print-reads.Learnt (bound args ns).0 (bound args ns).3) (λ ns t. id⊢ 𝓤 _) (λ ns. refl) (λ ns. id⊢ 𝓤 _) (λ ns ws. ws) (λ ns ws. id⊢ 𝓤 _) fit σ F s)
-      (λ q.
-      let f = q.7 in
-      so 𝓛 𝓜 (𝓡.env print-symbol.name) args σ F q.1 _ _ _ q.2 (head_is q.6.0 ∙ ap (vint w64) f.0) (λ i. to_print p sheet (f.1 i)) (q.5, q.8.0, q.8.1, q.8.2))
+  print_leaves wired = any.print_leaves 𝓛 𝓜 𝓡 p (𝓡.env print-symbol.name) (print-met.met 𝓤 𝓛 𝓜 (strict 𝓤 H 𝓜 𝓡) wired)
 
   -- And the lines have room.
   pub print_within : Wired 𝓡.env print-symbol.code → (sheet out : List ℕ) → AllFit (to_print p sheet out) → (σ : Memory) (F : SProp 𝓤) → Satisfies 𝓤 H 𝓜 σ (sep 𝓤 (Owned 𝓤 H 𝓜 (to_print p sheet out)) F) → ∥ (length (printed sheet) ≤ most_lines) ∥₁
-  unfolding values_of value_of
-  print_within wired sheet out fit σ F s =
-      let args = to_print p sheet out in
-      ∥∥₁_map
-      (said 𝓛 𝓜 𝓡 print.signature (𝓡.env print-symbol.name) (print.spec 𝓛 𝓜.mem 𝓡.returns) (print-met.met 𝓤 𝓛 𝓜 (strict 𝓤 H 𝓜 𝓡) wired) (print.ended).kept args (bound args) (λ ns. tt)
-      (λ ns. print-reads.Learnt (bound args ns).0 (bound args ns).3) (λ ns t. id⊢ 𝓤 _) (λ ns. refl) (λ ns. id⊢ 𝓤 _) (λ ns ws. ws) (λ ns ws. id⊢ 𝓤 _) fit σ F s) (λ q. subst (λ (k : ℕ). k ≤ most_lines) q.7.0 q.7.2)
+  print_within wired = any.print_within 𝓛 𝓜 𝓡 p (𝓡.env print-symbol.name) (print-met.met 𝓤 𝓛 𝓜 (strict 𝓤 H 𝓜 𝓡) wired)
 
   pub load_leaves : Wired 𝓡.env load-symbol.code → (sheet : List ℕ) (r : Record)
       → Leaves 𝓛 𝓜 (𝓡.env load-symbol.name) (to_load p sheet r) (vint w8 (number_for (reading sheet))) (to_load p sheet (loaded sheet))
-  unfolding values_of value_of
-  load_leaves wired sheet r fit σ F s =
-      let args = to_load p sheet r in
-      ∥∥₁_map
-      (said 𝓛 𝓜 𝓡 load.signature (𝓡.env load-symbol.name) (load.spec 𝓛 𝓜.mem 𝓡.returns) (load-met.met 𝓤 𝓛 𝓜 (strict 𝓤 H 𝓜 𝓡) wired) (load.ended).kept args (bound args) (λ ns. tt)
-      (λ ns. load-reads.Learnt (bound args ns).0 (bound args ns).3) (λ ns t. id⊢ 𝓤 _) (λ ns. refl) (λ ns. id⊢ 𝓤 _) (λ ns ws. ws) (λ ns ws. id⊢ 𝓤 _) fit σ F s)
-      (λ q.
-      let f = q.7 in
-      so 𝓛 𝓜 (𝓡.env load-symbol.name) args σ F q.1 _ _ _ q.2 (head_is q.6.0 ∙ ap (vint w8) f.0) (λ i. bytes_at (p 0) sheet ∷ record_pieces writes writes (p 1) (p 2) (p 3) (f.1 i) (f.2 i) (f.3 i)) (q.5, q.8.0, q.8.1, q.8.2))
+  load_leaves wired = any.load_leaves 𝓛 𝓜 𝓡 p (𝓡.env load-symbol.name) (load-met.met 𝓤 𝓛 𝓜 (strict 𝓤 H 𝓜 𝓡) wired)
 
   pub load_in_leaves : Wired 𝓡.env load-in-symbol.code → (sheet : List ℕ) (r : Record) (t : Tables)
       → Leaves 𝓛 𝓜 (𝓡.env load-in-symbol.name) (to_load_in p sheet r t) (vint w8 (number_for (reading sheet))) (to_load_in p sheet (loaded sheet) (tables_after (reading sheet) t))
-  unfolding values_of value_of
-  load_in_leaves wired sheet r t fit σ F s =
-      let args = to_load_in p sheet r t in
-      ∥∥₁_map
-      (said 𝓛 𝓜 𝓡 load-in.signature (𝓡.env load-in-symbol.name) (load-in.spec 𝓛 𝓜.mem 𝓡.returns) (load-in-met.met 𝓤 𝓛 𝓜 (strict 𝓤 H 𝓜 𝓡) wired) (load-in.ended).kept args (bound args) (λ ns. tt)
-      (λ ns. load-in-reads.Learnt (bound args ns).0 (bound args ns).3) (λ ns t. id⊢ 𝓤 _) (λ ns. refl) (λ ns. id⊢ 𝓤 _) (λ ns ws. ws) (λ ns ws. id⊢ 𝓤 _) fit σ F s)
-      (λ q.
-      let f = q.7 in
-      so 𝓛 𝓜 (𝓡.env load-in-symbol.name) args σ F q.1 _ _ _ q.2 (head_is q.6.0 ∙ ap (vint w8) f.0) (λ i. (bytes_at (p 0) sheet ∷ record_pieces writes writes (p 1) (p 2) (p 3) (f.1 i) (f.2 i) (f.3 i)) ++ lent_tables (p 4) (p 5) (p 6) (record { heads = f.4.0 i; nodes = f.4.1 i; sets = f.4.2 i })) (q.5, q.8.0, q.8.1, q.8.2))
+  load_in_leaves wired = any.load_in_leaves 𝓛 𝓜 𝓡 p (𝓡.env load-in-symbol.name) (load-in-met.met 𝓤 𝓛 𝓜 (strict 𝓤 H 𝓜 𝓡) wired)
 
   pub next_leaves : Wired 𝓡.env next-symbol.code → (r : Record) (told : List ℕ)
       → Leaves 𝓛 𝓜 (𝓡.env next-symbol.name) (to_next p r told) (vint w8 (number_for (next_on r))) (to_next p r (memory_after told_numbers (next_on r) told))
-  unfolding values_of value_of AllFit Fits lent_record lengths_of
-  next_leaves wired r told fit σ F s =
-      let args = to_next p r told in
-      ∥∥₁_map
-      (said 𝓛 𝓜 𝓡 next.signature (𝓡.env next-symbol.name) (next.spec 𝓛 𝓜.mem 𝓡.returns) (next-met.met 𝓤 𝓛 𝓜 (strict 𝓤 H 𝓜 𝓡) wired) (next.ended).kept args (bound args) (λ ns. tt)
-      (λ ns. next-reads.Learnt (bound args ns).0 (bound args ns).3) (λ ns t. id⊢ 𝓤 _) (λ ns. refl) (λ ns. id⊢ 𝓤 _) (λ ns ws. ws) (λ ns ws. id⊢ 𝓤 _) fit σ F s)
-      (λ q.
-      let f = q.7 in
-      so 𝓛 𝓜 (𝓡.env next-symbol.name) args σ F q.1 _ _ _ q.2 (head_is q.6.0 ∙ ap (vint w8) f.0) (λ i. to_next p r (f.1 i)) (q.5, q.8.0, q.8.1, q.8.2))
+  next_leaves wired = any.next_leaves 𝓛 𝓜 𝓡 p (𝓡.env next-symbol.name) (next-met.met 𝓤 𝓛 𝓜 (strict 𝓤 H 𝓜 𝓡) wired)
 
   pub next_in_leaves : Wired 𝓡.env next-in-symbol.code → (r : Record) (told : List ℕ) (t : Tables)
       → Leaves 𝓛 𝓜 (𝓡.env next-in-symbol.name) (to_next_in p r told t) (vint w8 (number_for (next_on r))) (to_next_in p r (memory_after told_numbers (next_on r) told) (tables_after (sheet_in r) t))
-  unfolding values_of value_of AllFit Fits lent_record lengths_of
-  next_in_leaves wired r told t fit σ F s =
-      let args = to_next_in p r told t in
-      ∥∥₁_map
-      (said 𝓛 𝓜 𝓡 next-in.signature (𝓡.env next-in-symbol.name) (next-in.spec 𝓛 𝓜.mem 𝓡.returns) (next-in-met.met 𝓤 𝓛 𝓜 (strict 𝓤 H 𝓜 𝓡) wired) (next-in.ended).kept args (bound args) (λ ns. tt)
-      (λ ns. next-in-reads.Learnt (bound args ns).0 (bound args ns).3) (λ ns t. id⊢ 𝓤 _) (λ ns. refl) (λ ns. id⊢ 𝓤 _) (λ ns ws. ws) (λ ns ws. id⊢ 𝓤 _) fit σ F s)
-      (λ q.
-      let f = q.7 in
-      so 𝓛 𝓜 (𝓡.env next-in-symbol.name) args σ F q.1 _ _ _ q.2 (head_is q.6.0 ∙ ap (vint w8) (f.0 (fit.1.1.1.1.0, fit.1.1.1.1.1.0, fit.1.1.1.1.1.1.0)).0) (λ i. to_next_in p r ((f.0 (fit.1.1.1.1.0, fit.1.1.1.1.1.0, fit.1.1.1.1.1.1.0)).1 i) (record { heads = f.1.0 i; nodes = f.1.1 i; sets = f.1.2 i })) (q.5, q.8.0, q.8.1, q.8.2))
+  next_in_leaves wired = any.next_in_leaves 𝓛 𝓜 𝓡 p (𝓡.env next-in-symbol.name) (next-in-met.met 𝓤 𝓛 𝓜 (strict 𝓤 H 𝓜 𝓡) wired)
 
   pub report_leaves : Wired 𝓡.env report-symbol.code → (r : Record) (reply : ℕ)
       → Leaves 𝓛 𝓜 (𝓡.env report-symbol.name) (to_report p r reply) (vint w8 (number_for (report_on r reply))) (to_report p (record_after r reply) reply)
-  unfolding values_of value_of AllFit Fits lent_record lengths_of
-  report_leaves wired r reply fit σ F s =
-      let args = to_report p r reply in
-      ∥∥₁_map
-      (said 𝓛 𝓜 𝓡 report.signature (𝓡.env report-symbol.name) (report.spec 𝓛 𝓜.mem 𝓡.returns) (report-met.met 𝓤 𝓛 𝓜 (strict 𝓤 H 𝓜 𝓡) wired) (report.ended).kept args (bound args) (λ ns. tt)
-      (λ ns. report-reads.Learnt (bound args ns).0 (bound args ns).3) (λ ns t. id⊢ 𝓤 _) (λ ns. refl) (λ ns. id⊢ 𝓤 _) (λ ns ws. ws) (λ ns ws. id⊢ 𝓤 _) fit σ F s)
-      (λ q.
-      let f = q.7 in
-      so 𝓛 𝓜 (𝓡.env report-symbol.name) args σ F q.1 _ _ _ q.2 (head_is q.6.0 ∙ ap (vint w8) f.0) (λ i. record_pieces reads writes (p 0) (p 1) (p 2) (kept_sheet r fit.0 reply i) (f.1 i) (f.2 i) ++ (number w8 reply ∷ [])) (q.5, q.8.0, q.8.1, q.8.2))
+  report_leaves wired = any.report_leaves 𝓛 𝓜 𝓡 p (𝓡.env report-symbol.name) (report-met.met 𝓤 𝓛 𝓜 (strict 𝓤 H 𝓜 𝓡) wired)
 
   pub report_in_leaves : Wired 𝓡.env report-in-symbol.code → (r : Record) (reply : ℕ) (t : Tables)
       → Leaves 𝓛 𝓜 (𝓡.env report-in-symbol.name) (to_report_in p r reply t) (vint w8 (number_for (report_on r reply))) (to_report_in p (record_after r reply) reply (tables_after (sheet_in r) t))
-  unfolding values_of value_of AllFit Fits lent_record lengths_of
-  report_in_leaves wired r reply t fit σ F s =
-      let args = to_report_in p r reply t in
-      ∥∥₁_map
-      (said 𝓛 𝓜 𝓡 report_in_law.signature (𝓡.env report-in-symbol.name) (report_in_law.spec 𝓛 𝓜.mem 𝓡.returns) (report-in-met.met 𝓤 𝓛 𝓜 (strict 𝓤 H 𝓜 𝓡) wired) (report_in_law.ended).kept args (bound args) (λ ns. tt)
-      (λ ns. report-in-reads.Learnt (bound args ns).0 (bound args ns).3) (λ ns t. id⊢ 𝓤 _) (λ ns. refl) (λ ns. id⊢ 𝓤 _) (λ ns ws. ws) (λ ns ws. id⊢ 𝓤 _) fit σ F s)
-      (λ q.
-      let f = q.7 in
-      so 𝓛 𝓜 (𝓡.env report-in-symbol.name) args σ F q.1 _ _ _ q.2 (head_is q.6.0 ∙ ap (vint w8) (f.0 (fit.1.1.1.1.0, fit.1.1.1.1.1.0, fit.1.1.1.1.1.1.0)).0) (λ i. (record_pieces reads writes (p 0) (p 1) (p 2) (kept_sheet r fit.0 reply i) ((f.0 (fit.1.1.1.1.0, fit.1.1.1.1.1.0, fit.1.1.1.1.1.1.0)).1 i) ((f.0 (fit.1.1.1.1.0, fit.1.1.1.1.1.0, fit.1.1.1.1.1.1.0)).2 i) ++ (number w8 reply ∷ [])) ++ lent_tables (p 3) (p 4) (p 5) (record { heads = f.1.0 i; nodes = f.1.1 i; sets = f.1.2 i })) (q.5, q.8.0, q.8.1, q.8.2))
+  report_in_leaves wired = any.report_in_leaves 𝓛 𝓜 𝓡 p (𝓡.env report-in-symbol.name) (report-in-met.met 𝓤 𝓛 𝓜 (strict 𝓤 H 𝓜 𝓡) wired)
 
   pub feed_leaves : Wired 𝓡.env feed-symbol.code → (piece numbers begun : List ℕ) (t : Tables) (memo : List ℕ)
       → Leaves 𝓛 𝓜 (𝓡.env feed-symbol.name) (to_feed p piece numbers begun t memo) (vint w8 (flag_number (is_done (fed (lent_release numbers begun) piece)))) (to_feed p piece (release_numbers (fed (lent_release numbers begun) piece)) (fed (lent_release numbers begun) piece).begun.bytes (tables_after_all (read_by (lent_release numbers begun) piece) t) (cleared_all (read_by (lent_release numbers begun) piece) memo))
-  unfolding values_of value_of AllFit Fits
-  feed_leaves wired piece numbers begun t memo fit σ F s =
-      let args = to_feed p piece numbers begun t memo in
-      ∥∥₁_map
-      (said 𝓛 𝓜 𝓡 feed.signature (𝓡.env feed-symbol.name) (feed.spec 𝓛 𝓜.mem 𝓡.returns) (feed-met.met 𝓤 𝓛 𝓜 (strict 𝓤 H 𝓜 𝓡) wired) (feed.ended).kept args (bound args) (λ ns. tt)
-      (λ ns. feed-reads.Learnt (bound args ns).0 (bound args ns).3) (λ ns t. id⊢ 𝓤 _) (λ ns. refl) (λ ns. id⊢ 𝓤 _) (λ ns ws. ws) (λ ns ws. id⊢ 𝓤 _) fit σ F s)
-      (λ q.
-      let f = q.7 in
-      let g = f.0 (fit.1.1.1.0, fit.1.1.1.1.0, fit.1.1.1.1.1.0) in
-      so 𝓛 𝓜 (𝓡.env feed-symbol.name) args σ F q.1 _ _ _ q.2 (head_is q.6.0 ∙ ap (vint w8) g.0) (λ i. to_feed p piece (g.1 i) (g.2 i) (record { heads = f.2.0 i; nodes = f.2.1 i; sets = f.2.2 i }) (f.1 i)) (q.5, q.8.0, q.8.1, q.8.2))
+  feed_leaves wired = any.feed_leaves 𝓛 𝓜 𝓡 p (𝓡.env feed-symbol.name) (feed-met.met 𝓤 𝓛 𝓜 (strict 𝓤 H 𝓜 𝓡) wired)
 
   pub end_leaves : Wired 𝓡.env end-symbol.code → (numbers begun figures : List ℕ)
       → Leaves 𝓛 𝓜 (𝓡.env end-symbol.name) (to_end p numbers begun figures) (vunit) (to_end p numbers begun (figure_numbers (meant_by (ended (lent_release numbers begun)))))
-  unfolding values_of value_of
-  end_leaves wired numbers begun figures fit σ F s =
-      let args = to_end p numbers begun figures in
-      ∥∥₁_map
-      (said 𝓛 𝓜 𝓡 end.signature (𝓡.env end-symbol.name) (end.spec 𝓛 𝓜.mem 𝓡.returns) (end-met.met 𝓤 𝓛 𝓜 (strict 𝓤 H 𝓜 𝓡) wired) (end.ended).kept args (bound args) (λ ns. tt)
-      (λ ns. end_reads.Learnt (bound args ns).0 (bound args ns).3) (λ ns t. id⊢ 𝓤 _) (λ ns. refl) (λ ns. id⊢ 𝓤 _) (λ ns ws. ws) (λ ns ws. id⊢ 𝓤 _) fit σ F s)
-      (λ q.
-      let f = q.7 in
-      so 𝓛 𝓜 (𝓡.env end-symbol.name) args σ F q.1 _ _ _ q.2 (head_is q.6) (λ i. to_end p numbers begun (f i)) (q.5, q.8.0, q.8.1, q.8.2))
+  end_leaves wired = any.end_leaves 𝓛 𝓜 𝓡 p (𝓡.env end-symbol.name) (end-met.met 𝓤 𝓛 𝓜 (strict 𝓤 H 𝓜 𝓡) wired)
 
   pub line_leaves : Wired 𝓡.env line-symbol.code → (figures out : List ℕ)
       → Leaves 𝓛 𝓜 (𝓡.env line-symbol.name) (to_line p figures out) (vint w64 (length (numbers_line figures))) (to_line p figures (write out 0 (numbers_line figures)))
-  unfolding values_of value_of
-  line_leaves wired figures out fit σ F s =
-      let args = to_line p figures out in
-      ∥∥₁_map
-      (said 𝓛 𝓜 𝓡 line.signature (𝓡.env line-symbol.name) (line.spec 𝓛 𝓜.mem 𝓡.returns) (line-met.met 𝓤 𝓛 𝓜 (strict 𝓤 H 𝓜 𝓡) wired) (line.ended).kept args (bound args) (λ ns. tt)
-      (λ ns. line_reads_lem.Learnt (bound args ns).0 (bound args ns).3) (λ ns t. id⊢ 𝓤 _) (λ ns. refl) (λ ns. id⊢ 𝓤 _) (λ ns ws. ws) (λ ns ws. id⊢ 𝓤 _) fit σ F s)
-      (λ q.
-      let f = q.7 in
-      so 𝓛 𝓜 (𝓡.env line-symbol.name) args σ F q.1 _ _ _ q.2 (head_is q.6.0 ∙ ap (vint w64) f.0) (λ i. to_line p figures (f.1 i)) (q.5, q.8.0, q.8.1, q.8.2))
+  line_leaves wired = any.line_leaves 𝓛 𝓜 𝓡 p (𝓡.env line-symbol.name) (line-met.met 𝓤 𝓛 𝓜 (strict 𝓤 H 𝓜 𝓡) wired)
 
   -- And the line has room.
   pub line_within : Wired 𝓡.env line-symbol.code → (figures out : List ℕ) → AllFit (to_line p figures out) → (σ : Memory) (F : SProp 𝓤) → Satisfies 𝓤 H 𝓜 σ (sep 𝓤 (Owned 𝓤 H 𝓜 (to_line p figures out)) F) → ∥ (length (numbers_line figures) ≤ most_lines) ∥₁
-  unfolding values_of value_of
-  line_within wired figures out fit σ F s =
-      let args = to_line p figures out in
-      ∥∥₁_map
-      (said 𝓛 𝓜 𝓡 line.signature (𝓡.env line-symbol.name) (line.spec 𝓛 𝓜.mem 𝓡.returns) (line-met.met 𝓤 𝓛 𝓜 (strict 𝓤 H 𝓜 𝓡) wired) (line.ended).kept args (bound args) (λ ns. tt)
-      (λ ns. line_reads_lem.Learnt (bound args ns).0 (bound args ns).3) (λ ns t. id⊢ 𝓤 _) (λ ns. refl) (λ ns. id⊢ 𝓤 _) (λ ns ws. ws) (λ ns ws. id⊢ 𝓤 _) fit σ F s) (λ q. subst (λ (k : ℕ). k ≤ most_lines) q.7.0 q.7.2)
+  line_within wired = any.line_within 𝓛 𝓜 𝓡 p (𝓡.env line-symbol.name) (line-met.met 𝓤 𝓛 𝓜 (strict 𝓤 H 𝓜 𝓡) wired)

@@ -1,4 +1,5 @@
 pub mod NumberLaws
+pub mod Leaving
 pub mod CallLaws
 pub mod ReadLaws
 pub mod Linking

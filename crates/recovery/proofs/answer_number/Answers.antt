@@ -1,7 +1,6 @@
 -- `recovery::answer_number` meets its contract: one equation for each answer. Assumes nothing.
 use mathlib.Core.Path.{sym, ap, ◌∙◌}
 use Rattle.reader.specs.Answers.{answer_of, number_for}
-use borrow.Author.Rules.{rules}
 use Rattle.recovery.proofs.answer_number.Goals as goal
 
 pub returns-in-Accepted : goal.returns-in-Accepted

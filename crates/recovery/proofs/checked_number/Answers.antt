@@ -2,7 +2,6 @@
 use mathlib.Core.Path.{sym, ap, ◌∙◌}
 use Rattle.checker.specs.Answers.{answer_of}
 use Rattle.recovery.specs.Numbers.{checked_number}
-use borrow.Author.Rules.{rules}
 use Rattle.recovery.proofs.checked_number.Goals as goal
 
 pub returns-in-Yes : goal.returns-in-Yes

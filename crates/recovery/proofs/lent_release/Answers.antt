@@ -3,7 +3,6 @@ use Prim.Native.Nat.{ℕ}
 use mathlib.Core.Path.{ap}
 use lib.ListN.{get_or}
 use Rattle.recovery.specs.Numbers.{lent_release}
-use borrow.Author.Rules.{rules}
 use Rattle.recovery.proofs.lent_release.Goals as goal
 
 pub returns : goal.returns

@@ -4,7 +4,6 @@ use Rattle.runner.specs.Answers.{told_of}
 use Rattle.runner.specs.declared.answer.Told.{Told}
 use Rattle.recovery.specs.Numbers.{told_numbers}
 use Rattle.recovery.proofs.NumberLaws.{told_numbers_law, told_refused}
-use borrow.Author.Rules.{rules}
 use Rattle.recovery.proofs.put_told.Goals as goal
 
 pub returns-in-BadRecord : goal.returns-in-BadRecord

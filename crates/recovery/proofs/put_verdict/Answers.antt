@@ -3,7 +3,6 @@ use mathlib.Core.Path.{sym, ap}
 use Rattle.verifier.specs.declared.verdict.Verdict.{Verdict}
 use Rattle.verifier.specs.Answers.{answer_of}
 use Rattle.recovery.specs.Numbers.{memory_after, verdict_numbers}
-use borrow.Author.Rules.{rules}
 use Rattle.recovery.proofs.put_verdict.Goals as goal
 
 pub returns-in-Valid : goal.returns-in-Valid

@@ -1,7 +1,6 @@
 -- `recovery::recovery_check_in` meets its contract: the number is that of the checker's answer. Assumes nothing.
 use mathlib.Core.Path.{ap, ◌∙◌}
 use Rattle.recovery.specs.Numbers.{checked_number}
-use borrow.Author.Rules.{rules}
 use Rattle.recovery.proofs.recovery_check_in.Goals as goal
 
 pub returns : goal.returns

@@ -4,7 +4,6 @@ use Rattle.semantics.specs.Figures.{figure_numbers}
 use Rattle.release.specs.declared.figures.Figures.{Figures}
 use Rattle.release.specs.Counting.{meant_by}
 use Rattle.release.specs.Feeding.{ended}
-use borrow.Author.Rules.{rules}
 use Rattle.recovery.proofs.recovery_figures_end.Goals as goal
 
 pub returns : goal.returns

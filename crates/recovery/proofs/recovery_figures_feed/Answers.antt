@@ -1,6 +1,5 @@
 -- `recovery::recovery_figures_feed` meets its contract: the state that was lent is fed, and its numbers are written. Assumes nothing.
 use Rattle.recovery.proofs.NumberLaws.{fed_lent, memo_fed, tables_fed}
-use borrow.Author.Rules.{rules}
 use Rattle.recovery.proofs.recovery_figures_feed.Goals as goal
 
 pub returns : goal.returns

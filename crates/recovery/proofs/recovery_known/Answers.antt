@@ -2,7 +2,6 @@
 use mathlib.Core.Path.{ap, ◌∙◌}
 use Rattle.recovery.specs.Numbers.{flag_number}
 use Rattle.recovery.proofs.NumberLaws.{known_lent}
-use borrow.Author.Rules.{rules}
 use Rattle.recovery.proofs.recovery_known.Goals as goal
 
 pub returns : goal.returns

@@ -1,7 +1,6 @@
 -- `recovery::recovery_load` meets its contract: the number is that of the answer of `Record::load`, and the parts of its record are written. Assumes nothing.
 use mathlib.Core.Path.{◌∙◌}
 use Rattle.recovery.proofs.NumberLaws.{same_number, record_parts}
-use borrow.Author.Rules.{rules}
 use Rattle.recovery.proofs.recovery_load.Goals as goal
 
 pub returns : goal.returns

@@ -1,6 +1,5 @@
 -- `recovery::recovery_next` meets its contract: the numbers are those of the answer of `Record::next` to the record that was lent. Assumes nothing.
 use Rattle.recovery.proofs.NumberLaws.{told_lent_law}
-use borrow.Author.Rules.{rules}
 use Rattle.recovery.proofs.recovery_next.Goals as goal
 
 pub returns : goal.returns

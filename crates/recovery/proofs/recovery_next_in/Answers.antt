@@ -1,6 +1,5 @@
 -- `recovery::recovery_next_in` meets its contract: the numbers are those of the answer of `Record::next_in` to the record that was lent, which writes the tables. Assumes nothing.
 use Rattle.recovery.proofs.NumberLaws.{told_lent_law, tables_lent}
-use borrow.Author.Rules.{rules}
 use Rattle.recovery.proofs.recovery_next_in.Goals as goal
 
 pub returns : goal.returns

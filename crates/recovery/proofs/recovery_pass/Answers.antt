@@ -5,7 +5,6 @@ use Rattle.states.specs.Sets.{words}
 use Rattle.progression.specs.declared.reply.Passed.{Passed}
 use Rattle.recovery.specs.Numbers.{flag_number}
 use Rattle.recovery.proofs.NumberLaws.{passed_lent}
-use borrow.Author.Rules.{rules}
 use Rattle.recovery.proofs.recovery_pass.Goals as goal
 
 pub returns : goal.returns

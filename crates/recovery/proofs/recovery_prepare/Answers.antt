@@ -2,7 +2,6 @@
 use mathlib.Core.Path.{sym, ap, ◌∙◌}
 use Rattle.routine.specs.Tables.{prepared_of}
 use Rattle.recovery.proofs.NumberLaws.{tables_refused, tables_ready}
-use borrow.Author.Rules.{rules}
 use Rattle.recovery.proofs.recovery_prepare.Goals as goal
 
 pub returns-in-Refused : goal.returns-in-Refused

@@ -1,7 +1,6 @@
 -- `recovery::recovery_report` meets its contract: the number is that of the answer of `Record::report` to the record that was lent, and the parts of the record after it are written. Assumes nothing.
 use mathlib.Core.Path.{◌∙◌}
 use Rattle.recovery.proofs.NumberLaws.{report_number, report_parts}
-use borrow.Author.Rules.{rules}
 use Rattle.recovery.proofs.recovery_report.Goals as goal
 
 pub returns : goal.returns

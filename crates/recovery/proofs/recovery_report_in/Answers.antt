@@ -2,7 +2,6 @@
 -- the record after it are written. Assumes nothing.
 use mathlib.Core.Path.{◌∙◌}
 use Rattle.recovery.proofs.NumberLaws.{tables_lent, report_number, report_parts}
-use borrow.Author.Rules.{rules}
 use Rattle.recovery.proofs.recovery_report_in.Goals as goal
 
 pub returns : goal.returns

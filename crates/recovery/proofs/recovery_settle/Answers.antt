@@ -7,7 +7,6 @@ use Rattle.progression.specs.declared.place.Place.{Place}
 use Rattle.progression.specs.Machine.{Inside}
 use Rattle.recovery.specs.Numbers.{place_number}
 use Rattle.recovery.proofs.NumberLaws.{place_numbered}
-use borrow.Author.Rules.{rules}
 use Rattle.recovery.proofs.recovery_settle.Goals as goal
 
 pub overflow_mul-result : goal.overflow_mul-result

@@ -1,6 +1,5 @@
 -- `recovery::recovery_step` meets its contract. Assumes nothing.
 use Rattle.recovery.proofs.NumberLaws.{step_written}
-use borrow.Author.Rules.{rules}
 use Rattle.recovery.proofs.recovery_step.Goals as goal
 
 pub returns : goal.returns

@@ -1,6 +1,5 @@
 -- `recovery::recovery_verify` meets its contract: the numbers are those of the verifier's answer. Assumes nothing.
 use Rattle.recovery.proofs.NumberLaws.{verdict_numbers_law}
-use borrow.Author.Rules.{rules}
 use Rattle.recovery.proofs.recovery_verify.Goals as goal
 
 pub returns : goal.returns

@@ -1,6 +1,5 @@
 -- `recovery::recovery_verify_in` meets its contract: the numbers are those of the verifier's answer, and the lent memories are as it leaves them. Assumes nothing.
 use Rattle.recovery.proofs.NumberLaws.{verdict_numbers_law}
-use borrow.Author.Rules.{rules}
 use Rattle.recovery.proofs.recovery_verify_in.Goals as goal
 
 pub returns : goal.returns

@@ -3,7 +3,6 @@ use mathlib.Core.Path.{sym, ap, ◌∙◌}
 use Rattle.runner.specs.declared.answer.Reported.{Reported}
 use Rattle.runner.specs.Answers.{reported_of}
 use Rattle.reader.specs.Answers.{number_for}
-use borrow.Author.Rules.{rules}
 use Rattle.recovery.proofs.report_number.Goals as goal
 
 pub returns-in-Accepted : goal.returns-in-Accepted

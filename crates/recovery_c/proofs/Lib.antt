@@ -1,0 +1,3 @@
+pub mod Linking
+pub mod Exports
+pub mod Theorem
