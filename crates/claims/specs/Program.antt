@@ -1,4 +1,5 @@
--- The functions that C links, in a program: what their names mean there; and the program that the crates make.
+-- The functions that C links, in a program: what their names mean there; and the program that the crates make. (C calls the exports of the
+-- static library, crate `recovery_c`, each of which calls the function of its name; `recovery_c/proofs` has the same of them.)
 use mathlib.Core.List.{[], ◌∷◌}
 use lib.Chars.{codes}
 use prog.Routine.{Env}

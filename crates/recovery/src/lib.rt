@@ -1,5 +1,5 @@
 // What C and Rust programs link: the library's functions under C's calling convention. A slice is a pointer and a length,
-// an array of fixed length is a pointer to its first element.
+// an array of fixed length is a pointer to its first element. (The crate `recovery_c` exports them.)
 #![tactic(auto)]
 
 ghost use Rattle.std.specs.Prelude.{◌≡◌, [], ◌∷◌, ◌≤◌, length};
