@@ -7,7 +7,7 @@ use mathlib.Core.List.{List, [], ◌∷◌, ◌++◌}
 use mathlib.Core.Path.{◌≡◌, refl, sym, ap, ◌∙◌}
 use lib.Dec.{ltb}
 use lib.ListN.{length}
-use Rattle.lists.specs.Lists.{if◌then◌else◌}
+use Rattle.std.specs.Prelude.{if◌then◌else◌}
 use Rattle.format.specs.Syntax.{Sheet, reply_count, action_of}
 use Rattle.format.specs.Format.{Answer, gives, refused, on_accepted, given_or, reading}
 use Rattle.format.proofs.FaultLaws.{refused_number}
@@ -55,7 +55,7 @@ verified_numbered bytes budget old k e = elim (dec_lt (length old) longest_trace
 
 -- The refusal of a record is 31,
 passing_numbered : {A : Type 0} (test : A → Bool) (a : Answer A) → Numbered (passing test a)
-unfolding passing given_or if◌then◌else◌ rejection_number
+unfolding passing given_or rejection_number
 passing_numbered test (refused r) k e = let same : 31 ≡ k = cc in omega (arith, same)
 passing_numbered {A} test (gives x) k e = go (test x) e
   where
@@ -74,7 +74,7 @@ on_numbered f (gives x) h m k e = m x k e
 on_numbered f (refused r) h m k e = let same : r ≡ k = cc in omega (arith, h r refl, same)
 
 reported_numbered : (sheet : Sheet) (rs : List ℕ) (x : ℕ) → Numbered (reported sheet rs x)
-unfolding reported reported_to if◌then◌else◌
+unfolding reported reported_to
 reported_numbered sheet rs x k e = go (left_after (routine sheet) rs) (history_of (routine sheet) rs) e
   where
     tests : (b c : Bool) → (if b then (if c then gives (rs ++ (x ∷ [])) else refused 34) else refused 33) ≡ refused k → 1 ≤ k

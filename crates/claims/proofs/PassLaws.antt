@@ -8,7 +8,8 @@ use mathlib.Core.List.{List, [], ◌∷◌, ◌++◌}
 use mathlib.Core.Bool.{Bool, true, false, ◌&&◌}
 use lib.ListN.{length}
 use borrow.Author.Tests.{lt-ltb, eqb-true, eq-eqb}
-use Rattle.lists.specs.Lists.{if◌then◌else◌, exists}
+use Rattle.lists.specs.Lists.{exists}
+use Rattle.std.specs.Prelude.{if◌then◌else◌}
 use Rattle.lists.proofs.ListLaws.{same_test, not_both, is_false, both_true, and_both, exists_mem, mem_exists}
 use Rattle.states.specs.declared.States.{States}
 use Rattle.states.specs.Sets.{member, set_of, members, of_words}
@@ -50,7 +51,7 @@ told_perform sheet (perform b after) h a e = let same : b ≡ a = cc in (after, 
 -- What is answered to a reply that the action has.
 tells : (b : Bool) (xs : List ℕ) (answer : Answer (Unit {0})) → answer ≡ without_value (if b then gives xs else refused 34)
     → ((answer ≡ gives tt) ↔ (b ≡ true)) × ((answer ≡ refused 34) ↔ (b ≡ false))
-unfolding without_value if◌then◌else◌
+unfolding without_value
 tells true xs answer e = (
   (λ g. refl, λ t. e),
   (λ r. let both : ◌≡◌ {A = Answer (Unit {0})} (gives tt) (refused 34) = sym e ∙ r in let z : ◌≡◌ {A = ℕ} 0 1 = cc in absurd (omega arith), λ f. not_both refl f),
@@ -66,7 +67,7 @@ module _ (sheet : Sheet) (rs : List ℕ) (r a : ℕ) where
 
   reported_had : told sheet rs ≡ to_do a → r < reply_count (action_of sheet a)
       → reported sheet rs r ≡ (if still_possible sheet before (entry a r) then gives (rs ++ (r ∷ [])) else refused 34)
-  unfolding told reported reported_to if◌then◌else◌
+  unfolding told reported reported_to
   reported_had t l =
       let left = told_perform sheet (left_after (routine sheet) rs) before a t in
       ap (λ (p : Policy). reported_to sheet p before rs r) left.1

@@ -8,7 +8,8 @@ use native.Mathlib.Omega.{arith}
 use lib.Dec.{leb, ltb, eqb}
 use lib.ListN.{length}
 use borrow.Author.Tests.{eqb-true, leb-true}
-use Rattle.lists.specs.Lists.{if◌then◌else◌, nonempty}
+use Rattle.lists.specs.Lists.{nonempty}
+use Rattle.std.specs.Prelude.{if◌then◌else◌}
 use Rattle.lists.proofs.ListLaws.{both_true, one_true}
 use Rattle.format.specs.Syntax.{Objective, bottom, top, fact, new_fact, negation, conjunction, disjunction, equivalence, Epistemic, known, not_known, all_of, any_of, end, Action, change, probe, Sheet}
 use Rattle.format.specs.Bits.{bits_at}
@@ -44,7 +45,6 @@ module _ {A : Type 0} where
   numbered_refuse k n bytes p r e = let same : k ≡ r = cc in subst IsFieldNumber same n
 
   numbered_if : (b : Bool) (m n : Reader A) → Numbered m → Numbered n → Numbered (if b then m else n)
-  unfolding if◌then◌else◌
   numbered_if true m n x y = x
   numbered_if false m n x y = y
 
@@ -62,7 +62,7 @@ numbered_behind {A = A} m k x y bytes p r e = go (m bytes p) refl e
     go (fault q) l j = let same : q ≡ r = cc in subst IsFieldNumber same (x bytes p q l)
 
 numbered_field : (k : ℕ) → Numbered (field k)
-unfolding field if◌then◌else◌
+unfolding field
 numbered_field k bytes p r e = go (leb (p + k) (8 * length bytes)) e
   where
     go : (b : Bool) → (if b then got (bits_at bytes p k) (p + k) else fault 2) ≡ fault r → IsFieldNumber r
@@ -236,7 +236,7 @@ actions_numbered space (a ∷ actions) r rs e = go (leads_on space (moves a)) (h
 
 -- How bytes are refused: by their length, by the fields, or by a test behind them.
 refused_how : (bytes : List ℕ) (k : ℕ) → reading bytes ≡ refused k → (k ≡ 1) ⊎ (((length bytes ≤ most_bytes) × (sheet_fields is_edition bytes 0 ≡ fault k)) ⊎ IsTestNumber k)
-unfolding reading reading_by of_sheet after_fields decided faults if◌then◌else◌
+unfolding reading reading_by of_sheet after_fields decided faults
 refused_how bytes k e = go (leb (length bytes) most_bytes) refl e
   where
     How : Type 0

@@ -6,7 +6,7 @@ use mathlib.Core.Bool.{Bool, true, false, ◌&&◌}
 use native.Mathlib.Omega.{arith}
 use lib.Dec.{leb, eqb}
 use borrow.Author.Tests.{le-leb, lt-leb, le-ltb, lt-ltb}
-use Rattle.lists.specs.Lists.{if◌then◌else◌}
+use Rattle.std.specs.Prelude.{if◌then◌else◌}
 use Rattle.format.specs.Syntax.{Objective, top}
 use Rattle.format.specs.Format.{got, fault, and_then, ◌>>=◌, give, refuse, check, field, most_facts, most_replies, most_acts, most_branches, deepest, objective, constraint_over, changes, probes, kind, reply_total, known_node, not_known_node, all_of_node, any_of_node, epistemic_node, end_node, act_node, branch_node, program_node, header_behind, header}
 
@@ -27,11 +27,11 @@ module _ (m : ℕ) where
 -- The constraint: edition 2 has one, and another edition is read as with the constraint "true".
 module _ (edition n : ℕ) (bytes : List ℕ) (p : ℕ) where
   pub constraint_stands : eqb edition 2 ≡ true → constraint_over edition n bytes p ≡ objective n false deepest bytes p
-  unfolding constraint_over if◌then◌else◌
+  unfolding constraint_over
   constraint_stands e = rw e
 
   pub constraint_absent : eqb edition 2 ≡ false → constraint_over edition n bytes p ≡ got top p
-  unfolding constraint_over if◌then◌else◌ give
+  unfolding constraint_over give
   constraint_absent e = rw e
 
 -- A header behind its number of facts.
@@ -92,12 +92,12 @@ module _ (bytes : List ℕ) (p : ℕ) where
   module _ {bit q : ℕ} (e : field 1 bytes p ≡ got bit q) where
     -- Kind 0 is a change.
     pub kind_change : eqb bit 0 ≡ true → kind bytes p ≡ got changes q
-    unfolding kind ◌>>=◌ and_then give if◌then◌else◌
+    unfolding kind ◌>>=◌ and_then give
     kind_change t = rw (e, t)
 
     -- The other is a probe.
     pub kind_probe : eqb bit 0 ≡ false → kind bytes p ≡ got probes q
-    unfolding kind ◌>>=◌ and_then give if◌then◌else◌
+    unfolding kind ◌>>=◌ and_then give
     kind_probe t = rw (e, t)
 
   -- A reply count that is cut is refused as the field is.
@@ -126,22 +126,22 @@ module _ (bytes : List ℕ) (p : ℕ) where
   module _ {tag q : ℕ} (e : field 2 bytes p ≡ got tag q) where
     -- Tag 0 is known.
     pub known_first : eqb tag 0 ≡ true → epistemic_node bytes p ≡ got known_node q
-    unfolding epistemic_node ◌>>=◌ and_then give if◌then◌else◌
+    unfolding epistemic_node ◌>>=◌ and_then give
     known_first t = rw (e, t)
 
     -- Tag 1 is not known.
     pub not_known_first : eqb tag 0 ≡ false → eqb tag 1 ≡ true → epistemic_node bytes p ≡ got not_known_node q
-    unfolding epistemic_node ◌>>=◌ and_then give if◌then◌else◌
+    unfolding epistemic_node ◌>>=◌ and_then give
     not_known_first t u = rw (e, t, u)
 
     -- Tag 2 is and.
     pub all_of_first : eqb tag 0 ≡ false → eqb tag 1 ≡ false → eqb tag 2 ≡ true → epistemic_node bytes p ≡ got all_of_node q
-    unfolding epistemic_node ◌>>=◌ and_then give if◌then◌else◌
+    unfolding epistemic_node ◌>>=◌ and_then give
     all_of_first t u v = rw (e, t, u, v)
 
     -- Any other tag is or.
     pub any_of_first : eqb tag 0 ≡ false → eqb tag 1 ≡ false → eqb tag 2 ≡ false → epistemic_node bytes p ≡ got any_of_node q
-    unfolding epistemic_node ◌>>=◌ and_then give if◌then◌else◌
+    unfolding epistemic_node ◌>>=◌ and_then give
     any_of_first t u v = rw (e, t, u, v)
 
 -- The first node of a program, by the nodes read before it.
@@ -154,37 +154,37 @@ module _ (acts branches : ℕ) (bytes : List ℕ) (p : ℕ) where
   module _ {tag q : ℕ} (e : field 2 bytes p ≡ got tag q) where
     -- Tag 0 is the end.
     pub end_first : eqb tag 0 ≡ true → program_node acts branches bytes p ≡ got end_node q
-    unfolding program_node ◌>>=◌ and_then give if◌then◌else◌
+    unfolding program_node ◌>>=◌ and_then give
     end_first t = rw (e, t)
 
     module _ (t : eqb tag 0 ≡ false) (u : eqb tag 1 ≡ true) where
       -- An action node too many is refused.
       pub act_many : most_acts ≤ acts → program_node acts branches bytes p ≡ fault 11
-      unfolding program_node ◌>>=◌ and_then check refuse if◌then◌else◌
+      unfolding program_node ◌>>=◌ and_then check refuse
       act_many l = rw (e, t, u, le-ltb acts most_acts l)
 
       -- An action node that ends inside its number is refused as the field is.
       pub number_cut : {r : ℕ} → acts < most_acts → field 5 bytes q ≡ fault r → program_node acts branches bytes p ≡ fault r
-      unfolding program_node ◌>>=◌ and_then check if◌then◌else◌
+      unfolding program_node ◌>>=◌ and_then check
       number_cut l h = rw (e, t, u, lt-ltb acts most_acts l, h)
 
       -- Tag 1 is an action with its number.
       pub act_first : {a r : ℕ} → acts < most_acts → field 5 bytes q ≡ got a r → program_node acts branches bytes p ≡ got (act_node a) r
-      unfolding program_node ◌>>=◌ and_then check give if◌then◌else◌
+      unfolding program_node ◌>>=◌ and_then check give
       act_first l h = rw (e, t, u, lt-ltb acts most_acts l, h)
 
     module _ (t : eqb tag 0 ≡ false) (u : eqb tag 1 ≡ false) where
       -- A branch node too many is refused.
       pub branch_many : eqb tag 2 ≡ true → most_branches ≤ branches → program_node acts branches bytes p ≡ fault 11
-      unfolding program_node ◌>>=◌ and_then check refuse if◌then◌else◌
+      unfolding program_node ◌>>=◌ and_then check refuse
       branch_many v l = rw (e, t, u, v, le-ltb branches most_branches l)
 
       -- Tag 2 is a branch.
       pub branch_first : eqb tag 2 ≡ true → branches < most_branches → program_node acts branches bytes p ≡ got branch_node q
-      unfolding program_node ◌>>=◌ and_then check give if◌then◌else◌
+      unfolding program_node ◌>>=◌ and_then check give
       branch_first v l = rw (e, t, u, v, lt-ltb branches most_branches l)
 
       -- Any other tag is a loop, which is refused.
       pub loop_first : eqb tag 2 ≡ false → program_node acts branches bytes p ≡ fault 10
-      unfolding program_node ◌>>=◌ and_then refuse if◌then◌else◌
+      unfolding program_node ◌>>=◌ and_then refuse
       loop_first v = rw (e, t, u, v)

@@ -8,7 +8,7 @@ use native.Mathlib.Nat.{add-suc, mul_assoc, mul-le-mul_right, pow-succ'}
 use lib.Dec.{leb, ltb, eqb}
 use lib.ListN.{length}
 use borrow.Author.Tests.{leb-true, ltb-true}
-use Rattle.lists.specs.Lists.{if◌then◌else◌}
+use Rattle.std.specs.Prelude.{if◌then◌else◌}
 use Rattle.format.specs.Syntax.{Program, end, act, branch, action_nodes, branch_nodes}
 use Rattle.format.specs.Bits.{bit_at, bits_onto, bits_at}
 use Rattle.format.specs.Format.{Read, got, fault, Reader, and_then, ◌>>=◌, give, refuse, check, field, deepest, most_acts, most_branches, epistemic, ProgramRead, ProgramNode, end_node, act_node, branch_node, program_node, program_behind, program_within, levels}
@@ -30,7 +30,6 @@ module _ {A : Type 0} (Q : A → Type 0) where
 
   -- The choice between two readers.
   pub gives_if : (b : Bool) (m n : Reader A) → Gives m → Gives n → Gives (if b then m else n)
-  unfolding if◌then◌else◌
   gives_if true m n x y = x
   gives_if false m n x y = y
 
@@ -126,7 +125,6 @@ module _ {A : Type 0} (bytes : List ℕ) (p : ℕ) (Q : A → ℕ → Type 0) wh
 
   -- The choice between two readers.
   pub finds_if : (b : Bool) (m n : Reader A) → (b ≡ true → Finds bytes p Q m) → (b ≡ false → Finds bytes p Q n) → Finds bytes p Q (if b then m else n)
-  unfolding if◌then◌else◌
   finds_if true m n x y = x refl
   finds_if false m n x y = y refl
 
@@ -147,7 +145,6 @@ Keeps {A} m m' = (bytes : List ℕ) (p : ℕ) (a : A) (q : ℕ) → m bytes p �
 module _ {A : Type 0} where
   -- The choice between two readers.
   pub keeps_if : (b : Bool) (m m' n n' : Reader A) → Keeps m m' → Keeps n n' → Keeps (if b then m else n) (if b then m' else n')
-  unfolding if◌then◌else◌
   keeps_if true m m' n n' x y = x
   keeps_if false m m' n n' x y = y
 
@@ -192,7 +189,7 @@ bits_below bytes p k = omega (arith, onto_below bytes 0 p k)
 
 -- What a field of k bits gives: the position k further, which is inside the bytes, and the number that stands there.
 pub field_got : (k : ℕ) (bytes : List ℕ) (p v q : ℕ) → field k bytes p ≡ got v q → (q ≡ p + k) × (p + k ≤ 8 * length bytes) × (v ≡ bits_at bytes p k)
-unfolding field if◌then◌else◌
+unfolding field
 field_got k bytes p v q e = go (leb (p + k) (8 * length bytes)) refl e
   where
     go : (b : Bool) → leb (p + k) (8 * length bytes) ≡ b → ◌≡◌ {A = Read ℕ} (if b then got (bits_at bytes p k) (p + k) else fault 2) (got v q) → (q ≡ p + k) × (p + k ≤ 8 * length bytes) × (v ≡ bits_at bytes p k)

@@ -8,7 +8,7 @@ use native.Mathlib.Numerals.{sub-one}
 use lib.Dec.{ltb}
 use lib.ListN.{length}
 use borrow.Author.Tests.{lt-ltb, le-ltb, le-leb, lt-leb}
-use Rattle.lists.specs.Lists.{if◌then◌else◌}
+use Rattle.std.specs.Prelude.{if◌then◌else◌}
 use Rattle.format.specs.Syntax.{Objective, Epistemic, known, not_known, all_of, any_of, Action, change, probe}
 use Rattle.format.specs.Format.{Read, got, fault, Reader, and_then, ◌>>=◌, mapped, give, refuse, check, field, most_bytes, deepest, fact_number, objective_behind, objective, EpistemicNode, known_node, not_known_node, all_of_node, any_of_node, epistemic_node, epistemic_behind, epistemic, objectives, changes, probes, kind, reply_total, theory_over, replies_over, action_behind, action, action_list, ProgramNode, program_node, program_behind, program_within, of_sheet}
 use Rattle.format.proofs.FormatLaws.{Behind, got_behind, behind_got, behind_fault}
@@ -68,12 +68,12 @@ mapped_give g m f bytes p = ap (mapped g) (give_mapped f m bytes p) ∙ mapped_t
 module _ {A : Type 0} (m : Reader A) (bytes : List ℕ) (p : ℕ) where
   -- One of at most 1,024 bytes is read.
   pub sheet_short : {r : Read A} → length bytes ≤ most_bytes → m bytes p ≡ r → r ≡ of_sheet m bytes p
-  unfolding of_sheet if◌then◌else◌
+  unfolding of_sheet
   sheet_short h e = rw (le-leb (length bytes) most_bytes h, e)
 
   -- A longer one is refused.
   pub sheet_long : most_bytes < length bytes → fault 1 ≡ of_sheet m bytes p
-  unfolding of_sheet if◌then◌else◌
+  unfolding of_sheet
   sheet_long h = rw (lt-leb (length bytes) most_bytes h)
 
 -- A fact number, by its field.

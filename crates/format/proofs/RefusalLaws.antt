@@ -8,7 +8,8 @@ use native.Mathlib.Omega.{arith}
 use lib.Dec.{leb}
 use lib.ListN.{length, get_or}
 use borrow.Author.Tests.{leb-true, le-leb}
-use Rattle.lists.specs.Lists.{if◌then◌else◌, below, every, exists, nonempty}
+use Rattle.lists.specs.Lists.{below, every, exists, nonempty}
+use Rattle.std.specs.Prelude.{if◌then◌else◌}
 use Rattle.lists.proofs.ListLaws.{not_both, is_false, every_mem, every_fails, exists_mem, mem_exists, mem_nonempty, nonempty_mem, mem_up_from, up_from_mem}
 use Rattle.format.specs.Syntax.{Action, probe, reply_count, Sheet, action_of}
 use Rattle.format.specs.Truth.{is_state, states, holds, moves, reply_holds}
@@ -158,12 +159,12 @@ start_some sheet start = let w = (some_start sheet).0 start in (some_state sheet
 module _ (bytes : List ℕ) where
   -- They decide of the bytes that say a sheet,
   says_decided : {sheet : Sheet} → Says bytes sheet → reading bytes ≡ decided (later sheet) sheet
-  unfolding reading reading_by of_sheet after_fields faults unless if◌then◌else◌
+  unfolding reading reading_by of_sheet after_fields faults unless
   says_decided x = rw (le-leb (length bytes) most_bytes x.short, x.fields, x.padded)
 
   -- and a number above 12 is one of theirs.
   refused_late : (k : ℕ) → 12 < k → reading bytes ≡ refused k → (sheet : Sheet) × Says bytes sheet × FirstTest sheet k
-  unfolding reading reading_by of_sheet after_fields decided faults unless if◌then◌else◌
+  unfolding reading reading_by of_sheet after_fields decided faults unless
   refused_late k l e = go (leb (length bytes) most_bytes) refl e
     where
       Late : Type 0

@@ -9,7 +9,8 @@ use native.Mathlib.Omega.{arith}
 use lib.Dec.{leb, ltb, eqb}
 use lib.ListN.{length, get_or, get_or-eq_default}
 use borrow.Author.Tests.{leb-true, ltb-true, ltb-false, eq-eqb}
-use Rattle.lists.specs.Lists.{if◌then◌else◌, up_from, below, exists, nonempty}
+use Rattle.lists.specs.Lists.{up_from, below, exists, nonempty}
+use Rattle.std.specs.Prelude.{if◌then◌else◌}
 use Rattle.lists.proofs.ListLaws.{not_both, both_true, and_both, mem_flat, every_mem, mem_every, exists_mem, mem_exists}
 use Rattle.format.specs.Syntax.{Objective, bottom, top, fact, new_fact, negation, conjunction, disjunction, equivalence, Epistemic, known, not_known, all_of, any_of, Program, end, act, branch, Action, change, probe, reply_count, action_nodes, branch_nodes, Sheet, action_of}
 use Rattle.format.specs.Truth.{is_state, states, truth, holds, moves, reply_holds, allowed}
@@ -145,7 +146,7 @@ record Accepted (bytes : List ℕ) (sheet : Sheet) : Type 0 where
 
 -- Accepted bytes are accepted so.
 accepted_how : (bytes : List ℕ) (sheet : Sheet) → reading bytes ≡ gives sheet → Accepted bytes sheet
-unfolding reading reading_by of_sheet after_fields decided if◌then◌else◌
+unfolding reading reading_by of_sheet after_fields decided
 accepted_how bytes sheet e = go (leb (length bytes) most_bytes) refl (sheet_fields is_edition bytes 0) refl e
   where
     last : (x : Sheet) (p : ℕ) (rs : List ℕ) → faults action_faults bytes p x ≡ rs → decided rs x ≡ gives sheet → (x ≡ sheet) × (faults action_faults bytes p x ≡ [])
@@ -163,7 +164,7 @@ accepted_how bytes sheet e = go (leb (length bytes) most_bytes) refl (sheet_fiel
 module _ (bytes : List ℕ) where
   -- A header that is refused.
   pub reading_refused : {r : ℕ} → of_sheet (header is_edition) bytes 0 ≡ fault r → reading bytes ≡ refused r
-  unfolding reading reading_by of_sheet after_fields if◌then◌else◌ ◌>>=◌ and_then
+  unfolding reading reading_by of_sheet after_fields ◌>>=◌ and_then
   reading_refused {r} e = go (leb (length bytes) most_bytes) e
     where
       go : (b : Bool) → ◌≡◌ {A = Read Header} (if b then header is_edition bytes 0 else fault 1) (fault r) → after_fields action_faults bytes (if b then and_then (header is_edition bytes 0) (λ h q. body h bytes q) else fault 1) ≡ refused r
@@ -173,7 +174,7 @@ module _ (bytes : List ℕ) where
   module _ {h : Header} {p : ℕ} (e : of_sheet (header is_edition) bytes 0 ≡ got h p) where
     -- One that is read: the sheet is short enough,
     pub header_short : length bytes ≤ most_bytes
-    unfolding of_sheet if◌then◌else◌
+    unfolding of_sheet
     header_short = go (leb (length bytes) most_bytes) refl e
       where
         go : (b : Bool) → leb (length bytes) most_bytes ≡ b → ◌≡◌ {A = Read Header} (if b then header is_edition bytes 0 else fault 1) (got h p) → length bytes ≤ most_bytes
@@ -182,7 +183,7 @@ module _ (bytes : List ℕ) where
 
     -- keeps the header's limits,
     pub header_limits : HeaderShape h
-    unfolding of_sheet if◌then◌else◌
+    unfolding of_sheet
     header_limits = go (leb (length bytes) most_bytes) e
       where
         go : (b : Bool) → ◌≡◌ {A = Read Header} (if b then header is_edition bytes 0 else fault 1) (got h p) → HeaderShape h
@@ -191,7 +192,7 @@ module _ (bytes : List ℕ) where
 
     -- and is what the fields behind it make it.
     pub reading_body : reading bytes ≡ after_fields action_faults bytes (body h bytes p)
-    unfolding reading reading_by of_sheet if◌then◌else◌ ◌>>=◌ and_then
+    unfolding reading reading_by of_sheet ◌>>=◌ and_then
     reading_body = go (leb (length bytes) most_bytes) e
       where
         go : (b : Bool) → ◌≡◌ {A = Read Header} (if b then header is_edition bytes 0 else fault 1) (got h p) → after_fields action_faults bytes (if b then and_then (header is_edition bytes 0) (λ h q. body h bytes q) else fault 1) ≡ after_fields action_faults bytes (body h bytes p)

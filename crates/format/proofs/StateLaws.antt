@@ -9,7 +9,8 @@ use lib.Dec.{ltb}
 use lib.Pow.{pow_mono}
 use lib.ListN.{length, get_or-eq_default}
 use borrow.Author.Tests.{eqb-true, eq-eqb, ltb-true, lt-ltb, le-ltb}
-use Rattle.lists.specs.Lists.{if◌then◌else◌, up_from, below, keep, Sorted}
+use Rattle.lists.specs.Lists.{up_from, below, keep, Sorted}
+use Rattle.std.specs.Prelude.{if◌then◌else◌}
 use Rattle.lists.proofs.ListLaws.{not_both, both_true, and_both, or_left, or_right, keep_mem, mem_keep, mem_up_from}
 use Rattle.lists.proofs.OrderLaws.{sorted_keep, sorted_up_from}
 use Rattle.format.specs.Syntax.{Objective, bottom, top, fact, new_fact, negation, conjunction, disjunction, equivalence, Action, change, probe, reply_count, Sheet}
@@ -59,12 +60,12 @@ module _ (sheet : Sheet) where
 -- Past a bound no number is kept by a test that none there passes.
 module _ (test : ℕ → Bool) (m : ℕ) (past : (s : ℕ) → m ≤ s → test s ≡ false) where
   keep_none : (a j : ℕ) → m ≤ a → keep test (up_from a j) ≡ []
-  unfolding keep up_from if◌then◌else◌
+  unfolding keep up_from
   keep_none a zero h = refl
   keep_none a (suc j) h = rw (past a h) (keep_none (suc a) j (omega arith))
 
   keep_below : (a k w : ℕ) → k ≤ w → m ≤ a + k → keep test (up_from a w) ≡ keep test (up_from a k)
-  unfolding keep up_from if◌then◌else◌
+  unfolding keep up_from
   keep_below a zero w l h = keep_none a w (omega arith)
   keep_below a (suc k) zero l h = absurd (omega arith)
   keep_below a (suc k) (suc w) l h = rw (keep_below (suc a) k w (omega arith) (omega arith))
@@ -81,7 +82,7 @@ states_bytes sheet few = space_bytes sheet.facts sheet.constraint few
 
 -- With the constraint "true" all numbers below 2^n are states.
 keep_all : (m a k : ℕ) → a + k ≤ m → keep (λ s. ltb s m && true) (up_from a k) ≡ up_from a k
-unfolding keep up_from if◌then◌else◌
+unfolding keep up_from
 keep_all m a zero l = refl
 keep_all m a (suc k) l = rw (lt-ltb a m (omega arith), keep_all m (suc a) k (omega arith))
 

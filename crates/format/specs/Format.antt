@@ -1,7 +1,8 @@
 -- The packed format: what a list of bytes says, or the number of its refusal. Document 01, "The sheet" and "From the sheet".
 use Rattle.std.specs.Prelude.{ℕ, zero, suc, ◌+◌, ◌-◌, ◌*◌, ◌≤◌, ◌≡◌, Bool, true, false, ◌&&◌, ◌||◌, length, leb, ltb, eqb}
 use mathlib.Core.List.{List, [], ◌∷◌, ◌++◌, flat_map}
-use Rattle.lists.specs.Lists.{if◌then◌else◌, up_from, below, every, exists, nonempty}
+use Rattle.lists.specs.Lists.{up_from, below, every, exists, nonempty}
+use Rattle.std.specs.Prelude.{if◌then◌else◌}
 use Rattle.format.specs.Syntax.{Objective, bottom, top, fact, new_fact, negation, conjunction, disjunction, equivalence, Epistemic, known, not_known, all_of, any_of, Program, end, act, branch, Action, change, probe, reply_count, Sheet}
 use Rattle.format.specs.Truth.{states, holds, moves, reply_holds}
 use Rattle.format.specs.Bits.{bits_at}
@@ -79,7 +80,7 @@ most_branches = 63
 
 -- A field of k bits. 2: the sheet ends inside it.
 unfoldable pub field : (k : ℕ) → Reader ℕ
-unfolding bits_at if◌then◌else◌
+unfolding bits_at
 field k bytes p = if leb (p + k) (8 * length bytes) then got (bits_at bytes p k) (p + k) else fault 2
 
 -- A 3-bit fact number. 6: it is n or more.
@@ -92,7 +93,7 @@ fact_number n = do
 -- An objective formula behind its tag. "0 false; 1 true; 2 fact and 3 new fact, each followed by a 3-bit fact number; 4 not (one formula follows); 5 and; 6 or;
 -- 7 equivalence (two follow)." `part` reads a formula one deeper. 7: a new fact outside a theory, "7 before the fact number".
 unfoldable pub objective_behind : (n : ℕ) (theory : Bool) (part : Reader Objective) (tag : ℕ) → Reader Objective
-unfolding fact_number ◌>>=◌ check give if◌then◌else◌
+unfolding fact_number ◌>>=◌ check give
 objective_behind n theory part tag =
     if eqb tag 0 then give bottom
     else if eqb tag 1 then give top
@@ -115,7 +116,7 @@ pub data EpistemicNode : Type 0 where
   known_node not_known_node all_of_node any_of_node : EpistemicNode
 
 unfoldable pub epistemic_node : Reader EpistemicNode
-unfolding field ◌>>=◌ give if◌then◌else◌
+unfolding field ◌>>=◌ give
 epistemic_node = do
   tag ← field 2
   if eqb tag 0 then give known_node else if eqb tag 1 then give not_known_node else if eqb tag 2 then give all_of_node else give any_of_node
@@ -148,7 +149,7 @@ pub data Kind : Type 0 where
   changes probes : Kind
 
 unfoldable pub kind : Reader Kind
-unfolding field ◌>>=◌ give if◌then◌else◌
+unfolding field ◌>>=◌ give
 kind = do
   bit ← field 1
   if eqb bit 0 then give changes else give probes
@@ -202,7 +203,7 @@ pub data ProgramNode : Type 0 where
 -- "Program: 2-bit tag. 0 end; 1 action (5-bit number, then the rest, a program); 2 branch (epistemic formula, then-program, else-program, rest); 3 loop, refused."
 -- acts and branches are the action nodes and the branch nodes read before it. 11: a node too many, and 10: a loop, "11 and 10 when the tag is known".
 unfoldable pub program_node : (acts branches : ℕ) → Reader ProgramNode
-unfolding field refuse check ◌>>=◌ give if◌then◌else◌
+unfolding field refuse check ◌>>=◌ give
 program_node acts branches = do
   tag ← field 2
   if eqb tag 0 then give end_node
@@ -250,7 +251,7 @@ pub record Header : Type 0 where
 -- The constraint over n facts. Document 02: "Edition 2 of the sheet has an objective formula, the constraint, straight after n." "Edition 1 sheets read as with the constraint
 -- true."
 unfoldable pub constraint_over : (edition n : ℕ) → Reader Objective
-unfolding objective give if◌then◌else◌
+unfolding objective give
 constraint_over edition n = if eqb edition 2 then objective n false deepest else give top
 
 -- A header behind n: the constraint, "number of actions A, 5 bits, 0 to 31".
@@ -332,7 +333,6 @@ after_fields tests bytes (got sheet p) = decided (faults tests bytes p sheet) sh
 
 -- A reader of a sheet: 1, "longer than 1,024 bytes", "comes first".
 unfoldable pub of_sheet : {A : Type 0} → Reader A → Reader A
-unfolding if◌then◌else◌
 of_sheet m bytes p = if leb (length bytes) most_bytes then m bytes p else fault 1
 
 -- What the bytes are, a sheet or a refusal, by the editions that are taken and the tests that each action is put to.

@@ -9,7 +9,8 @@ use native.Mathlib.Omega.{arith}
 use lib.ListN.{length, get_or, drop, length-append}
 use lib.Seq.{drop-cons}
 use native.Mathlib.Nat.{eq-or-lt_of_le}
-use Rattle.lists.specs.Lists.{if◌then◌else◌, up_from, every, exists, keep, nonempty, AllUnder}
+use Rattle.lists.specs.Lists.{up_from, every, exists, keep, nonempty, AllUnder}
+use Rattle.std.specs.Prelude.{if◌then◌else◌}
 
 -- A test's two cases.
 pub two_cases : (b : Bool) → (b ≡ true) ⊎ (b ≡ false)
@@ -60,7 +61,6 @@ or_right false b p = p
 module _ {A : Type 0} where
   -- What is kept is in the list and passes the test, and the other way round.
   pub kept_if : (b : Bool) {a x : A} {xs : List A} → Memᴰ a (if b then x ∷ xs else xs) → ((b ≡ true) × (a ≡ x)) ⊎ Memᴰ a xs
-  unfolding if◌then◌else◌
   kept_if true m = ⊎_elim (λ e. inl (refl, e)) (λ k. inr k) (Memᴰ.cases_cons m)
   kept_if false m = inr m
 
@@ -75,7 +75,7 @@ module _ {A : Type 0} where
       go below (inr k) = (Memᴰ.tail (below k).0, (below k).1)
 
   pub mem_keep : (test : A → Bool) {a : A} (xs : List A) → Memᴰ a xs → test a ≡ true → Memᴰ a (keep test xs)
-  unfolding keep if◌then◌else◌
+  unfolding keep
   mem_keep test [] m t = m
   mem_keep test {a} (x ∷ xs) m t = go (λ k. mem_keep test xs k t) (test x) refl (Memᴰ.cases_cons m)
     where
@@ -211,7 +211,7 @@ exists_same f g (x ∷ xs) e = ap₂ ◌||◌ (e x (Memᴰ.head refl)) (exists_s
 
 -- What is kept by a test is kept behind a weaker one.
 pub keep_within : {A : Type 0} (f g : A → Bool) (xs : List A) → ((a : A) → f a ≡ true → g a ≡ true) → keep f (keep g xs) ≡ keep f xs
-unfolding keep if◌then◌else◌
+unfolding keep
 keep_within f g [] w = refl
 keep_within f g (x ∷ xs) w = go (g x) refl (f x) refl (keep_within f g xs w)
   where
@@ -268,8 +268,8 @@ keep_append {A} test (x ∷ xs) ys = go (test x) (keep_append test xs ys)
   where
     go : (b : Bool) → keep test (xs ++ ys) ≡ keep test xs ++ keep test ys
         → (if b then x ∷ keep test (xs ++ ys) else keep test (xs ++ ys)) ≡ (if b then x ∷ keep test xs else keep test xs) ++ keep test ys
-    go true e = unfold if◌then◌else◌ in (ap (λ (zs : List A). x ∷ zs) e)
-    go false e = unfold if◌then◌else◌ in e
+    go true e = (ap (λ (zs : List A). x ∷ zs) e)
+    go false e = e
 
 pub kept_length : {A : Type 0} (test : A → Bool) (xs ys : List A) → length (keep test (xs ++ ys)) ≡ length (keep test xs) + length (keep test ys)
 kept_length test xs ys = ap length (keep_append test xs ys) ∙ length-append (keep test xs) (keep test ys)
@@ -280,8 +280,8 @@ kept_most test [] = omega arith
 kept_most test (x ∷ xs) = go (test x) (kept_most test xs)
   where
     go : (b : Bool) → length (keep test xs) ≤ length xs → length (if b then x ∷ keep test xs else keep test xs) ≤ suc (length xs)
-    go true e = unfold if◌then◌else◌ in (omega (arith, e))
-    go false e = unfold if◌then◌else◌ in (omega (arith, e))
+    go true e = (omega (arith, e))
+    go false e = (omega (arith, e))
 
 pub up_from_length : (a k : ℕ) → length (up_from a k) ≡ k
 unfolding up_from
@@ -314,7 +314,7 @@ module _ {A B : Type 0} where
 
 -- What is kept of what was kept.
 pub keep_keep : {A : Type 0} (test kept : A → Bool) (xs : List A) → keep test (keep kept xs) ≡ keep (λ x. kept x && test x) xs
-unfolding keep if◌then◌else◌
+unfolding keep
 keep_keep test kept [] = refl
 keep_keep test kept (x ∷ xs) = go (kept x) (test x) refl (keep_keep test kept xs)
   where

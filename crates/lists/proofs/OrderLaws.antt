@@ -6,7 +6,8 @@ use mathlib.Core.List.{List, [], ◌∷◌, ◌++◌, map, flat_map, Memᴰ}
 use mathlib.Core.Logic.{◌⊎◌, inl, inr, ⊎_elim}
 use mathlib.Core.Bool.{Bool, true, false}
 use native.Mathlib.Omega.{arith}
-use Rattle.lists.specs.Lists.{if◌then◌else◌, up_from, keep, up_to, Sorted, Before}
+use Rattle.lists.specs.Lists.{up_from, keep, up_to, Sorted, Before}
+use Rattle.std.specs.Prelude.{if◌then◌else◌}
 use Rattle.lists.proofs.ListLaws.{not_both, keep_mem, flat_mem, up_from_mem}
 
 -- What stands up to the first element that passes a test stands in the list.
@@ -76,7 +77,7 @@ module _ {A : Type 0} (R : A → A → Type 0) (test : A → Bool) where
   UpToPassing xs x = (y : A) → Memᴰ y xs → test y ≡ true → (x ≡ y) ⊎ R x y
 
   pub up_to_first : (xs : List A) → Sorted R xs → (x : A) → Memᴰ x (up_to test xs) → UpToPassing xs x
-  unfolding up_to Sorted if◌then◌else◌
+  unfolding up_to Sorted
   up_to_first [] s x m = absurd (Memᴰ.not-nil m)
   up_to_first (z ∷ zs) s x m = go (test z) refl (λ k. up_to_first zs s.1 x k) m
     where
@@ -96,7 +97,7 @@ module _ {A : Type 0} (R : A → A → Type 0) (test : A → Bool) where
           ⊎_elim (λ (p : x ≡ z). first p y (Memᴰ.cases_cons i)) (λ j. later e (d j) y t (Memᴰ.cases_cons i)) (Memᴰ.cases_cons k)
 
   pub mem_up_to : ((x y : A) → R x y → R y x → ⊥) → (xs : List A) → Sorted R xs → (x : A) → Memᴰ x xs → UpToPassing xs x → Memᴰ x (up_to test xs)
-  unfolding up_to Sorted if◌then◌else◌
+  unfolding up_to Sorted
   mem_up_to asym [] s x m h = m
   mem_up_to asym (z ∷ zs) s x m h =
       go (test z) refl (λ k. mem_up_to asym zs s.1 x k (λ y j t. h y (Memᴰ.tail j) t)) (Memᴰ.cases_cons m)

@@ -1,12 +1,6 @@
 -- Choices, lists of numbers, tests over lists, order, and what is written into a list. Nothing here is of document 01; its definitions are written with these.
-use Rattle.std.specs.Prelude.{ℕ, zero, suc, ◌+◌, ◌<◌, ◌≡◌, ◌⊎◌, Bool, true, false, ◌&&◌, ◌||◌, set}
+use Rattle.std.specs.Prelude.{if◌then◌else◌, ℕ, zero, suc, ◌+◌, ◌<◌, ◌≡◌, ◌⊎◌, Bool, true, false, ◌&&◌, ◌||◌, set}
 use mathlib.Core.List.{List, [], ◌∷◌, Memᴰ}
-
--- The choice between two values by a test.
-infix 5 if◌then◌else◌
-unfoldable pub if◌then◌else◌ : {A : Type 0} → Bool → A → A → A
-if◌then◌else◌ true a b = a
-if◌then◌else◌ false a b = b
 
 -- k numbers from a on: a, a + 1, ..
 unfoldable pub up_from : (a k : ℕ) → List ℕ
@@ -29,13 +23,11 @@ module _ {A : Type 0} where
 
   -- The elements that pass a test, in order.
   unfoldable pub keep : (A → Bool) → List A → List A
-  unfolding if◌then◌else◌
   keep test [] = []
   keep test (x ∷ xs) = if test x then x ∷ keep test xs else keep test xs
 
   -- The elements up to and including the first that passes a test; all of them if none does.
   unfoldable pub up_to : (A → Bool) → List A → List A
-  unfolding if◌then◌else◌
   up_to test [] = []
   up_to test (x ∷ xs) = if test x then x ∷ [] else x ∷ up_to test xs
 

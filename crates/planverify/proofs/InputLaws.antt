@@ -8,7 +8,8 @@ use lib.Dec.{ltb}
 use lib.ListN.{length, take}
 use borrow.Author.Tests.{lt-ltb, le-ltb}
 use Rattle.std.specs.Prelude.{Result, Ok, Err, IfOk}
-use Rattle.lists.specs.Lists.{if◌then◌else◌, write}
+use Rattle.lists.specs.Lists.{write}
+use Rattle.std.specs.Prelude.{if◌then◌else◌}
 use Rattle.semantics.specs.Printing.{printed}
 use Rattle.planverify.specs.declared.Input.{Input}
 use Rattle.planverify.specs.declared.Next.{Next}
@@ -16,7 +17,6 @@ use Rattle.planverify.specs.Input.{after_read, Within, lines_for}
 
 -- Behind n bytes, by whether there is room for more.
 abbrev by_room : Bool → ℕ → Next
-unfolding if◌then◌else◌
 by_room b n = if b then Next.More n else Next.Over (Input.Read n)
 
 -- The cases of `after_read` as the code tells them apart.

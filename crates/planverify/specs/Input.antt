@@ -1,13 +1,12 @@
 -- What the calls of `read` say of the input, and what is printed for it.
 use Rattle.std.specs.Prelude.{ℕ, zero, suc, ◌+◌, ◌≤◌, List, [], take, ltb, Result, Ok, Err}
-use Rattle.lists.specs.Lists.{if◌then◌else◌}
+use Rattle.std.specs.Prelude.{if◌then◌else◌}
 use Rattle.semantics.specs.Printing.{printed}
 use Rattle.planverify.specs.declared.Next.{Next}
 use Rattle.planverify.specs.declared.Input.{Input}
 
 -- What follows a call of `read` behind `done` of `most` bytes. Only the answer 0 is the end of the input; an error is a failure, whatever was read before.
 unfoldable pub after_read : {E : Type 0} (done most : ℕ) → Result ℕ E → Next
-unfolding if◌then◌else◌
 after_read done most (Err e) = Next.Over Input.Failed
 after_read done most (Ok zero) = Next.Over (Input.Read done)
 after_read done most (Ok (suc k)) = let n = done + suc k in if ltb n most then Next.More n else Next.Over (Input.Read n)

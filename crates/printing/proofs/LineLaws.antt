@@ -9,7 +9,8 @@ use lib.Dec.{ltb}
 use borrow.Author.Tests.{ltb-true, ltb-false, lt-ltb, le-ltb}
 use lib.ListN.{length, get_or, take, drop, set, length-append, drop_of_length-le}
 use lib.Seq.{take-suc, take_all, drop-cons, length-take-le}
-use Rattle.lists.specs.Lists.{if◌then◌else◌, write}
+use Rattle.lists.specs.Lists.{write}
+use Rattle.std.specs.Prelude.{if◌then◌else◌}
 use Rattle.reader.specs.declared.refusal.Refusal.{Refusal}
 use Rattle.format.specs.Format.{gives}
 use Rattle.reader.specs.Answers.{number_of, number_for}
@@ -23,11 +24,11 @@ use Rattle.printing.specs.Lines.{Put, behind_word, shown_in, Printable}
 
 -- The digit of a number, below 10 and from 10 on.
 pub digit_low : (d : ℕ) → d < 10 → 0x30 + d ≡ digit d
-unfolding digit if◌then◌else◌
+unfolding digit
 digit_low d h = rw (lt-ltb d 10 h)
 
 pub digit_high : (d : ℕ) → 10 ≤ d → 0x61 + (d - 10) ≡ digit d
-unfolding digit if◌then◌else◌
+unfolding digit
 digit_high d h = rw (le-ltb d 10 h) (omega arith)
 
 -- One byte is put, and two parts one behind the other.

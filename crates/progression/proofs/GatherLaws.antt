@@ -10,7 +10,8 @@ use borrow.Author.Tests.{lt-ltb, le-ltb, ne_eqb}
 use lib.Dec.{eqb, ltb}
 use lib.Bits.{bit_and}
 use lib.Count.{count_trailing_zeros}
-use Rattle.lists.specs.Lists.{if◌then◌else◌, up_from, below, exists}
+use Rattle.lists.specs.Lists.{up_from, below, exists}
+use Rattle.std.specs.Prelude.{if◌then◌else◌}
 use Rattle.lists.proofs.ListLaws.{or_assoc, or_none, exists_same, same_test, not_both, both_true, and_both, one_true, or_left, or_right, exists_mem, mem_exists, up_from_mem, mem_up_from, up_from_append}
 use Rattle.states.specs.declared.States.{States}
 use Rattle.states.specs.Sets.{bit, word, member, set_of}
@@ -154,11 +155,9 @@ module _ (sets : List ℕ) (first : ℕ) (set : States) where
 
 -- A choice by a test that passes, and by one that fails.
 chosen : {A : Type 0} {b : Bool} {x : A} (y : A) → b ≡ true → x ≡ (if b then x else y)
-unfolding if◌then◌else◌
 chosen {A} {b} {x} y e = ap (λ (c : Bool). if c then x else y) (sym e)
 
 passed : {A : Type 0} {b : Bool} (x : A) {y : A} → b ≡ false → y ≡ (if b then x else y)
-unfolding if◌then◌else◌
 passed {A} {b} x {y} e = ap (λ (c : Bool). if c then x else y) (sym e)
 
 -- The effect of an action with rows, and of one without.

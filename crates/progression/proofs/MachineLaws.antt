@@ -9,7 +9,8 @@ use types.Run.{OneOf}
 use denote.Enum.Declared.{tag_of}
 use lib.Dec.{ltb}
 use borrow.Author.Tests.{not-true, ltb-true, ltb-false}
-use Rattle.lists.specs.Lists.{if◌then◌else◌, every, nonempty}
+use Rattle.lists.specs.Lists.{every, nonempty}
+use Rattle.std.specs.Prelude.{if◌then◌else◌}
 use Rattle.lists.proofs.ListLaws.{two_cases, same_test, not_both, both_true, and_both, every_mem, mem_every, mem_nonempty, nonempty_mem}
 use Rattle.states.proofs.SetLaws.{member_set_of, members_mem, mem_members}
 use Rattle.states.specs.declared.States.{States}
@@ -152,14 +153,14 @@ module _ (node : ℕ → Node) (isKnown : ℕ → Bool) (all : Bool) (inner : (s
   parts_atom end i h positive k e = let j : i + 1 + 0 ≡ i + 1 = omega arith in parts_by end i h (Node.Atom positive k) e ∙ ap (λ (v : ℕ). joined all (atom_holds isKnown positive k) (parts_to end v)) j
 
   pub parts_alike : (end i : ℕ) → i < end → (both : Bool) (size : ℕ) → Node.Join both size ≡ node i → beq both all ≡ true → parts_to end i ≡ parts_to end (i + 1)
-  unfolding part_node if◌then◌else◌
+  unfolding part_node
   parts_alike end i h both size e t =
       let j : i + 1 + 0 ≡ i + 1 = omega arith in
       parts_by end i h (Node.Join both size) e ∙ ap (λ (b : Bool). if b then parts_to end (i + 1 + 0) else joined all (inner (min size (end - (i + 1))) (i + 1)) (parts_to end (i + 1 + size))) t ∙ ap (parts_to end) j
 
   pub parts_other : (end i : ℕ) → i < end → (both : Bool) (size : ℕ) → Node.Join both size ≡ node i → beq both all ≡ false
       → parts_to end i ≡ joined all (inner (min size (end - (i + 1))) (i + 1)) (parts_to end (i + 1 + size))
-  unfolding part_node if◌then◌else◌
+  unfolding part_node
   parts_other end i h both size e f =
       parts_by end i h (Node.Join both size) e ∙ ap (λ (b : Bool). if b then parts_to end (i + 1 + 0) else joined all (inner (min size (end - (i + 1))) (i + 1)) (parts_to end (i + 1 + size))) f
 

@@ -6,7 +6,8 @@ use mathlib.Core.List.{List, [], ◌∷◌, ◌++◌}
 use mathlib.Core.Bool.{Bool, true, false, not, beq}
 use native.Mathlib.Omega.{arith}
 use lib.ListN.{length, get_or, length-append, get_or-append}
-use Rattle.lists.specs.Lists.{if◌then◌else◌, every}
+use Rattle.lists.specs.Lists.{every}
+use Rattle.std.specs.Prelude.{if◌then◌else◌}
 use Rattle.lists.proofs.ListLaws.{not_both, every_same, append_past}
 use Rattle.states.specs.declared.States.{States}
 use Rattle.states.specs.Sets.{member, set_of, members}
@@ -299,7 +300,7 @@ module _ (nodes sets : List ℕ) (end_at count : ℕ) where
 
     program_settles : (p : Program) (ps onward : List Program) → ((i : ℕ) → ProgramsAt i ps → Settles i onward) → (i : ℕ) → ProgramsAt i (p ∷ ps)
         → Settles i (left_of (satisfies (members set)) p ps onward)
-    unfolding left_of ProgramsAt size if◌then◌else◌
+    unfolding left_of ProgramsAt size
     program_settles end ps onward later i at =
         let e : i ≡ i + 0 = omega arith in
         settles_from i at.2 onward (ap goes e ∙ leads_go (i + 0) at.2 at.7) (later at.2 at.8)

@@ -2,7 +2,7 @@
 use mathlib.Core.Path.{◌≡◌, refl}
 use mathlib.Core.List.{List, [], ◌∷◌}
 use mathlib.Core.Bool.{Bool, true, false}
-use Rattle.lists.specs.Lists.{if◌then◌else◌}
+use Rattle.std.specs.Prelude.{if◌then◌else◌}
 use Rattle.format.specs.Syntax.{Epistemic, Program, end, act, branch, Sheet}
 use Rattle.semantics.specs.Runs.{History, holds_after}
 use Rattle.semantics.specs.Routine.{Policy, done, policy}
@@ -16,7 +16,6 @@ policies sheet (p ∷ ps) h = policy sheet p (policies sheet ps) h
 -- What is left when a program, and the programs ps behind it, come to an action or to the end, by the truth of the conditions; `onward` is what is left if the
 -- program ends.
 unfoldable pub left_of : (truth : Epistemic → Bool) → Program → (ps onward : List Program) → List Program
-unfolding if◌then◌else◌
 left_of truth end ps onward = onward
 left_of truth (act a rest) ps onward = act a rest ∷ ps
 left_of truth (branch f y z rest) ps onward =
@@ -31,7 +30,7 @@ all_left truth (p ∷ ps) = left_of truth p ps (all_left truth ps)
 module _ (sheet : Sheet) (h : History) where
   left_policy : (p : Program) (ps onward : List Program) → policies sheet onward h ≡ policies sheet ps h
       → policies sheet (left_of (holds_after sheet h) p ps onward) h ≡ policy sheet p (policies sheet ps) h
-  unfolding left_of policies policy if◌then◌else◌
+  unfolding left_of policies policy
   left_policy end ps onward e = e
   left_policy (act a rest) ps onward e = refl
   left_policy (branch f y z rest) ps onward e =
@@ -59,7 +58,7 @@ Begun (branch f y z rest ∷ ps) = ⊥
 
 module _ (truth : Epistemic → Bool) where
   left_begun : (p : Program) (ps onward : List Program) → Begun onward → Begun (left_of truth p ps onward)
-  unfolding left_of Begun if◌then◌else◌
+  unfolding left_of Begun
   left_begun end ps onward b = b
   left_begun (act a rest) ps onward b = tt
   left_begun (branch f y z rest) ps onward b =
@@ -80,7 +79,7 @@ module _ (truth : Epistemic → Bool) where
 -- The same by the same truths.
 module _ (t u : Epistemic → Bool) (same : (f : Epistemic) → t f ≡ u f) where
   left_same : (p : Program) (ps onward onward' : List Program) → onward ≡ onward' → left_of t p ps onward ≡ left_of u p ps onward'
-  unfolding left_of if◌then◌else◌
+  unfolding left_of
   left_same end ps onward onward' e = e
   left_same (act a rest) ps onward onward' e = refl
   left_same (branch f y z rest) ps onward onward' e =

@@ -1,7 +1,8 @@
 -- The tables as a machine, whatever numbers are in the memory: where the program settles, one step of the set of possible states, and one pass over it when a reply comes in.
 use Rattle.std.specs.Prelude.{ℕ, zero, suc, ◌+◌, ◌-◌, ◌<◌, min, ◌≡◌, refl, List, [], ◌∷◌, Bool, true, false, not, ◌&&◌, ◌||◌, ltb, length}
 use Rattle.std.specs.Bool.{beq}
-use Rattle.lists.specs.Lists.{if◌then◌else◌, up_from, below, every, exists}
+use Rattle.lists.specs.Lists.{up_from, below, every, exists}
+use Rattle.std.specs.Prelude.{if◌then◌else◌}
 use Rattle.states.specs.declared.States.{States}
 use Rattle.states.specs.Sets.{member, set_of, members}
 use Rattle.format.specs.Syntax.{top, fact, negation, Epistemic, known, not_known, all_of, any_of, end, act, branch, change, probe, Sheet}
@@ -38,7 +39,7 @@ joined false first second = first || second
 -- What a node says of the parts of a formula from it on, joined by "and" (`all`) or "or". `rest` tells of those behind it, so many nodes further. A part that is joined in
 -- the same way stands for its parts; `inner` tells of one that is joined the other way, by how many nodes its parts have. Other nodes are no part.
 unfoldable pub part_node : (is_known : ℕ → Bool) (all : Bool) (inner rest : ℕ → Bool) → Node → Bool
-unfolding atom_holds joined if◌then◌else◌
+unfolding atom_holds joined
 part_node is_known all inner rest (Node.Atom positive k) = joined all (atom_holds is_known positive k) (rest 0)
 part_node is_known all inner rest (Node.Join both size) = if beq both all then rest 0 else joined all (inner size) (rest size)
 part_node is_known all inner rest (Node.Act a number) = false
@@ -79,7 +80,6 @@ holds_at nodes is_known i = formula_node is_known (λ all size. parts_hold nodes
 -- A node is where the program settles, or it leads on, so many nodes further. `formula` tells whether the formula at a node holds: a branch goes by that behind it, the
 -- end by the goal. A node of a formula is an end too.
 unfoldable pub at_node : (formula : ℕ → Bool) → Node → (i : ℕ) → (onward : (skip : ℕ) → Place) → Place
-unfolding if◌then◌else◌
 at_node formula (Node.Act a number) i onward = Place.Act i a
 at_node formula (Node.Branch met unmet) i onward = onward (if formula (i + 1) then met else unmet)
 at_node formula (Node.Jump skip) i onward = onward skip
@@ -144,12 +144,12 @@ gathered sets first set = set_of (λ t. exists (λ s. member set s && member (se
 
 -- The effect of an action: the states in the rows of the possible states, if it has rows, else the same. ("after a change, one that the theory allows"; "after a probe, the same state".)
 unfoldable pub effect : (sets : List ℕ) → Head → States → States
-unfolding if◌then◌else◌ gathered
+unfolding gathered
 effect sets head set = if ltb head.rows head.replies then gathered sets head.rows set else set
 
 -- The states in which a reply of an action is true, by its table. A reply that the action hasn't is true in none.
 unfoldable pub reply_states : (sets : List ℕ) → Head → (reply : ℕ) → States
-unfolding if◌then◌else◌ set_of set_at
+unfolding set_of set_at
 reply_states sets head reply = if ltb reply head.count then set_at sets (head.replies + reply) else set_of (λ t. false)
 
 -- The states of a set that are kept by a reply: those in which it is true. (2013: the states where the reply holds are kept.)

@@ -7,7 +7,7 @@ use native.Mathlib.Omega.{arith}
 use lib.Dec.{eqb}
 use lib.ListN.{length}
 use borrow.Author.Tests.{ne_eqb}
-use Rattle.lists.specs.Lists.{if◌then◌else◌}
+use Rattle.std.specs.Prelude.{if◌then◌else◌}
 use Rattle.states.specs.declared.States.{States}
 use Rattle.states.specs.Sets.{member, set_of}
 use Rattle.states.proofs.SetLaws.{member_set_of, set_cong}
@@ -108,7 +108,7 @@ module _ (from to : ℕ → ℕ) where
       set_or tag l = rw l (two_set disjunction ◌||◌ (λ f g x y. refl) h k)
 
       pub set_same : (tag : ℕ) → 6 < tag → behind tag ≡ got (set_of (λ t. beq (member a t) (member b t))) e
-      unfolding objective_behind if◌then◌else◌ truth
+      unfolding objective_behind truth
       set_same tag l =
           rw (
             ne_eqb tag 0 (λ z. omega arith),
@@ -122,7 +122,7 @@ module _ (from to : ℕ → ℕ) where
 
     -- The refusal of a first part stands.
     pub first_refused : (tag : ℕ) → 3 < tag → {r : ℕ} → mapped true_at (part bytes q) ≡ fault r → behind tag ≡ fault r
-    unfolding objective_behind if◌then◌else◌ mapped
+    unfolding objective_behind mapped
     first_refused tag l {r} h =
         rw (ne_eqb tag 0 (λ z. omega arith), ne_eqb tag 1 (λ z. omega arith), ne_eqb tag 2 (λ z. omega arith), ne_eqb tag 3 (λ z. omega arith))
         (go (eqb tag 4) (eqb tag 5) (eqb tag 6))
@@ -141,7 +141,7 @@ module _ (from to : ℕ → ℕ) where
 
     -- The refusal of a second part stands.
     pub second_refused : (tag : ℕ) → 4 < tag → {a : States} {p r : ℕ} → mapped true_at (part bytes q) ≡ got a p → mapped true_at (part bytes p) ≡ fault r → behind tag ≡ fault r
-    unfolding objective_behind if◌then◌else◌ mapped
+    unfolding objective_behind mapped
     second_refused tag l {a} {p} {r} h k =
         rw (ne_eqb tag 0 (λ z. omega arith), ne_eqb tag 1 (λ z. omega arith), ne_eqb tag 2 (λ z. omega arith), ne_eqb tag 3 (λ z. omega arith), ne_eqb tag 4 (λ z. omega arith))
         (go (eqb tag 5) (eqb tag 6))

@@ -1,6 +1,7 @@
 -- Counted from zero, the code's figures are document 02's: none of them reaches 64 bits. Assumes nothing.
 use Rattle.std.proofs.Common.{◌≡◌, ℕ, ◌+◌, ◌^◌, ◌<◌, ◌≤◌, Bool, true, false, leb, List, [], ◌∷◌, map, length, sym, refl, ap, ◌∙◌, arith}
-use Rattle.lists.specs.Lists.{if◌then◌else◌, keep}
+use Rattle.lists.specs.Lists.{keep}
+use Rattle.std.specs.Prelude.{if◌then◌else◌}
 use Rattle.format.specs.Format.{Answer, gives, refused}
 use Rattle.semantics.specs.Verdict.{Verdict, valid, invalid, stopped}
 use Rattle.semantics.specs.Figures.{apart, most_lengths, cuts, answers_to, is_valid, is_invalid, is_stopped, is_refused, count_in, length_in, how_many, sum_of, greater, greatest_of, figures_of, figures}
@@ -19,7 +20,7 @@ plus_small a b h = omega (arith, h)
 
 -- One more of a kind.
 many_one : (test : Answer Verdict → Bool) (a : Answer Verdict) (rest : List (Answer Verdict)) → how_many test (a ∷ rest) ≡ one (test a) + how_many test rest
-unfolding how_many keep if◌then◌else◌
+unfolding how_many keep
 many_one test a rest = go (test a)
   where
     go : (b : Bool) → length (if b then a ∷ keep test rest else keep test rest) ≡ one b + length (keep test rest)
@@ -29,7 +30,7 @@ many_one test a rest = go (test a)
 -- The length of one that isn't invalid is 0.
 greatest_one : (a : Answer Verdict) (rest : List (Answer Verdict))
     → greatest_of (map length_in (keep is_invalid (a ∷ rest))) ≡ greater (length_in a) (greatest_of (map length_in (keep is_invalid rest)))
-unfolding keep if◌then◌else◌ is_invalid greatest_of length_in
+unfolding keep is_invalid greatest_of length_in
 greatest_one (gives (valid c)) rest = sym (greater_right 0 _ (omega arith))
 greatest_one (gives (invalid c l)) rest = refl
 greatest_one (gives (stopped b)) rest = sym (greater_right 0 _ (omega arith))

@@ -3,7 +3,7 @@ use Rattle.std.proofs.Common.{◌≡◌, ℕ, zero, suc, ◌+◌, ◌*◌, ◌<�
 use native.Mathlib.Decide.{ℕ_discrete}
 use lib.ListN.{length-replicate, get_or-replicate, get_or-append, get_or-eq_default}
 use lib.Seq.{get_or-append_seam}
-use Rattle.lists.specs.Lists.{if◌then◌else◌}
+use Rattle.std.specs.Prelude.{if◌then◌else◌}
 use Rattle.lists.proofs.ListLaws.{made_length, made_get}
 use Rattle.release.specs.declared.framing.Begun.{Begun}
 use Rattle.release.specs.Framing.{first_of, most_begun, length_of, size_of, kept_of, begun_of, held_in, opened}
@@ -89,7 +89,7 @@ size_least o = omega arith
 
 -- What is held by the bytes that were kept, and what the code keeps of these.
 held_within : (b : Begun) → held_in b ≤ size_of b.bytes
-unfolding held_in if◌then◌else◌
+unfolding held_in
 held_within b = go (ltb (size_of b.bytes) b.held) refl
   where
     go : (t : Bool) → ltb (size_of b.bytes) b.held ≡ t → (if t then size_of b.bytes else b.held) ≤ size_of b.bytes
@@ -97,7 +97,7 @@ held_within b = go (ltb (size_of b.bytes) b.held) refl
     go false e = ltb-false (size_of b.bytes) b.held e
 
 pub held_least : (b : Begun) (r : ℕ) → r ≤ b.held → r ≤ size_of b.bytes → (r ≡ b.held) ⊎ (r ≡ size_of b.bytes) → r ≡ held_in b
-unfolding held_in if◌then◌else◌
+unfolding held_in
 held_least b r below within either = go (ltb (size_of b.bytes) b.held) refl either
   where
     go : (t : Bool) → ltb (size_of b.bytes) b.held ≡ t → (r ≡ b.held) ⊎ (r ≡ size_of b.bytes) → r ≡ (if t then size_of b.bytes else b.held)
@@ -107,7 +107,7 @@ held_least b r below within either = go (ltb (size_of b.bytes) b.held) refl eith
     go false e (inr w) = omega (arith, w, ltb-false (size_of b.bytes) b.held e, below)
 
 pub held_some : (b : Begun) → 0 < b.held → 0 < held_in b
-unfolding held_in if◌then◌else◌
+unfolding held_in
 held_some b h = go (ltb (size_of b.bytes) b.held)
   where
     go : (t : Bool) → 0 < (if t then size_of b.bytes else b.held)
@@ -115,7 +115,7 @@ held_some b h = go (ltb (size_of b.bytes) b.held)
     go false = h
 
 pub held_none : (b : Begun) → b.held ≤ 0 → held_in b ≤ 0
-unfolding held_in if◌then◌else◌
+unfolding held_in
 held_none b h = go (ltb (size_of b.bytes) b.held) refl
   where
     go : (t : Bool) → ltb (size_of b.bytes) b.held ≡ t → (if t then size_of b.bytes else b.held) ≤ 0
@@ -138,11 +138,11 @@ opened_within b = go (ltb (held_in b) 2) refl
 
 -- What is kept: all, or of a sheet that is too long its length.
 pub kept_short : (o : List ℕ) → size_of o ≤ most_begun → kept_of o ≡ o
-unfolding kept_of if◌then◌else◌
+unfolding kept_of
 kept_short o h = ap (λ (b : Bool). if b then take 2 o else o) (le-ltb most_begun (size_of o) h)
 
 kept_long : (o : List ℕ) → most_begun < size_of o → kept_of o ≡ take 2 o
-unfolding kept_of if◌then◌else◌
+unfolding kept_of
 kept_long o h = ap (λ (b : Bool). if b then take 2 o else o) (lt-ltb most_begun (size_of o) h)
 
 taken_past : (o : List ℕ) (i : ℕ) → 2 ≤ i → get_or (take 2 o) i 0 ≡ 0

@@ -1,6 +1,7 @@
 -- The state of a stream of bytes fits its memory: numbers of 64 bits, and bytes. Assumes nothing.
 use Rattle.std.proofs.Common.{◌≡◌, ℕ, zero, suc, ◌+◌, ◌-◌, ◌*◌, ◌^◌, ◌<◌, ◌≤◌, Bool, true, false, ltb, List, [], ◌∷◌, ◌++◌, map, length, get_or, take, refl, ap, ◌∙◌, arith}
-use Rattle.lists.specs.Lists.{if◌then◌else◌, up_from, AllUnder}
+use Rattle.lists.specs.Lists.{up_from, AllUnder}
+use Rattle.std.specs.Prelude.{if◌then◌else◌}
 use Rattle.lists.proofs.ListLaws.{number_at}
 use Rattle.format.specs.Syntax.{Sheet}
 use Rattle.format.specs.Format.{Answer, reading}
@@ -34,7 +35,7 @@ taken_bytes (suc n) [] h = tt
 taken_bytes (suc n) (x ∷ xs) h = (h.0, taken_bytes n xs h.1)
 
 kept_bytes : (xs : List ℕ) → AllUnder 256 xs → AllUnder 256 (kept_of xs)
-unfolding kept_of if◌then◌else◌
+unfolding kept_of
 kept_bytes xs h = go (ltb most_begun (size_of xs))
   where
     go : (t : Bool) → AllUnder 256 (if t then take 2 xs else xs)
@@ -69,7 +70,7 @@ FiguresFit f =
     (f.valid < 2 ^ 64) × (f.invalid < 2 ^ 64) × (f.stopped < 2 ^ 64) × (f.refused < 2 ^ 64) × (f.sum < 2 ^ 64) × (f.greatest < 2 ^ 64)
 
 greater_fits : (a b : ℕ) → a < 2 ^ 64 → b ≤ 64 → greater a b < 2 ^ 64
-unfolding greater if◌then◌else◌
+unfolding greater
 greater_fits a b h k = go (ltb a b)
   where
     go : (t : Bool) → (if t then b else a) < 2 ^ 64

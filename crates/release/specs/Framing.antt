@@ -1,6 +1,7 @@
 -- What is begun of a stream: a length and its sheet, as far as they are there.
 use Rattle.std.specs.Prelude.{ℕ, ◌+◌, ◌*◌, List, map, length, take, nat_lt, slice_index}
-use Rattle.lists.specs.Lists.{if◌then◌else◌, below}
+use Rattle.lists.specs.Lists.{below}
+use Rattle.std.specs.Prelude.{if◌then◌else◌}
 use Rattle.format.specs.Format.{most_bytes}
 use Rattle.release.specs.declared.framing.Begun.{Begun}
 
@@ -22,7 +23,7 @@ size_of bytes = 2 + length_of bytes
 
 -- What is kept of the bytes that are begun: of a sheet that is too long its length alone, and how many bytes there are.
 unfoldable pub kept_of : (bytes : List ℕ) → List ℕ
-unfolding if◌then◌else◌ size_of
+unfolding size_of
 kept_of bytes = if nat_lt most_begun (size_of bytes) then take 2 bytes else bytes
 
 unfoldable pub begun_of : (bytes : List ℕ) → Begun
@@ -31,7 +32,7 @@ begun_of bytes = record { held = length bytes; bytes = first_of most_begun (kept
 
 -- The bytes that are begun by what was kept, no more than the length says. Those that weren't kept count as zeros, and nothing depends on them.
 unfoldable pub held_in : Begun → ℕ
-unfolding if◌then◌else◌ size_of
+unfolding size_of
 held_in b = if nat_lt (size_of b.bytes) b.held then size_of b.bytes else b.held
 
 unfoldable pub opened : Begun → List ℕ

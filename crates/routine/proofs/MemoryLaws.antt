@@ -4,7 +4,7 @@ use mathlib.Core.Path.{◌≡◌}
 use mathlib.Core.List.{List}
 use mathlib.Core.Bool.{Bool, true, false}
 use lib.Dec.{eqb, ltb}
-use Rattle.lists.specs.Lists.{if◌then◌else◌}
+use Rattle.std.specs.Prelude.{if◌then◌else◌}
 use lib.ListN.{get_or, replicate, length-replicate}
 use borrow.Author.Tests.{lt-ltb, le-ltb, ne_eqb}
 use Rattle.routine.specs.declared.memory.Node.{Node}
@@ -25,12 +25,10 @@ set_in sets k h = rw (lt-ltb k set_most h)
 pub three_in : {A : Type 0} (make : ℕ → ℕ → ℕ → A) (other : A) (memory : List ℕ) (most i x y z : ℕ) → i < most
     → x ≡ get_or memory (3 * i) 0 → y ≡ get_or memory (3 * i + 1) 0 → z ≡ get_or memory (3 * i + 2) 0
     → make x y z ≡ (if ltb i most then make (get_or memory (3 * i) 0) (get_or memory (3 * i + 1) 0) (get_or memory (3 * i + 2) 0) else other)
-unfolding if◌then◌else◌
 three_in make other memory most i x y z h p q r = rw (lt-ltb i most h, p, q, r)
 
 -- Past the last set, head or node.
 pub past : {A : Type 0} (most i : ℕ) (inside other : A) → most ≤ i → other ≡ (if ltb i most then inside else other)
-unfolding if◌then◌else◌
 past most i inside other h = rw (le-ltb i most h)
 
 -- The node that three numbers are, by the first of them.
@@ -44,7 +42,6 @@ node_else kind operand second a b c d e = rw (ne_eqb kind 0 a, ne_eqb kind 1 b, 
 
 -- What holds of both ways of a test.
 by_test : (P : Node → Type 0) (b : Bool) (x y : Node) → P x → P y → P (if b then x else y)
-unfolding if◌then◌else◌
 by_test P true x y p q = p
 by_test P false x y p q = q
 

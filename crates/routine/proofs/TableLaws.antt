@@ -7,7 +7,8 @@ use native.Mathlib.Omega.{arith}
 use native.Mathlib.Nat.{mul-zero, mul-suc}
 use lib.ListN.{length, get_or, take, length-append, get_or-append}
 use borrow.Author.Tests.{lt-ltb}
-use Rattle.lists.specs.Lists.{if◌then◌else◌, write}
+use Rattle.lists.specs.Lists.{write}
+use Rattle.std.specs.Prelude.{if◌then◌else◌}
 use Rattle.lists.proofs.ListLaws.{append_past, made_get}
 use Rattle.states.specs.declared.States.{States}
 use Rattle.states.specs.Sets.{words, set_of}
@@ -61,7 +62,7 @@ abbrev pub no_states : States
 no_states = set_of (λ s. false)
 
 set_back : (xs : List ℕ) (items : List States) → length xs ≡ 4 * set_most → length items ≤ set_most → (k : ℕ) → k < length items → set_at (write xs 0 (flat_map words items)) k ≡ get_or items k no_states
-unfolding set_at words if◌then◌else◌
+unfolding set_at words
 set_back xs items h m k l =
     let room : length (flat_map words items) ≤ length xs = omega (arith, h, spread_length 4 words words_four items) in
     let e : ((j : ℕ) → j < 4 → get_or (write xs 0 (flat_map words items)) (4 * k + j) 0 ≡ get_or (words (get_or items k no_states)) j 0) = λ j. item_back 4 words words_four no_states xs items room k j l in
@@ -74,7 +75,7 @@ no_node = Node.End 0
 
 -- A node is read back from its numbers.
 node_cells_law : (x : Node) → node_of (get_or (cells x) 0 0) (get_or (cells x) 1 0) (get_or (cells x) 2 0) ≡ x
-unfolding node_of cells if◌then◌else◌
+unfolding node_of cells
 node_cells_law (Node.Act a number) = refl
 node_cells_law (Node.Branch met unmet) = refl
 node_cells_law (Node.Jump skip) = refl
@@ -85,7 +86,7 @@ node_cells_law (Node.Atom true k) = refl
 node_cells_law (Node.Atom false k) = refl
 
 node_back : (xs : List ℕ) (items : List Node) → length xs ≡ 3 * node_most → length items ≤ node_most → (k : ℕ) → k < length items → node_at (write xs 0 (flat_map cells items)) k ≡ get_or items k no_node
-unfolding node_at if◌then◌else◌
+unfolding node_at
 node_back xs items h m k l =
     let room : length (flat_map cells items) ≤ length xs = omega (arith, h, spread_length 3 cells cells_three items) in
     rw (
@@ -162,7 +163,7 @@ pub record Tabled (sheet : Sheet) (heads nodes sets : List ℕ) : Type 0 where
 -- A memory of the right size holds the tables of an accepted sheet after it was prepared.
 prepared_tabled : (bytes : List ℕ) (sheet : Sheet) → reading bytes ≡ gives sheet → (heads nodes sets : List ℕ) → Sized heads nodes sets
     → Tabled sheet (prepared sheet_heads (reading bytes) heads) (prepared node_cells (reading bytes) nodes) (prepared set_words (reading bytes) sets)
-unfolding prepared sheet_heads node_cells set_words head_at action_of if◌then◌else◌
+unfolding prepared sheet_heads node_cells set_words head_at action_of
 prepared_tabled bytes sheet e heads nodes sets (h, n, s) =
     let room = accepted_room bytes sheet e in
     let shape = accepted_shape bytes sheet e in

@@ -1,6 +1,6 @@
 -- What stands in the memory of a routine's tables, whatever numbers are in it: sets of states, nodes of the program and of its formulas, heads of actions.
 use Rattle.std.specs.Prelude.{ℕ, ◌+◌, ◌*◌, ◌<◌, ◌≡◌, List, [], ◌∷◌, Bool, true, false, ltb, eqb, length, get_or}
-use Rattle.lists.specs.Lists.{if◌then◌else◌}
+use Rattle.std.specs.Prelude.{if◌then◌else◌}
 use Rattle.states.specs.declared.States.{States}
 use Rattle.states.specs.Sets.{words_at, set_of}
 use Rattle.routine.specs.declared.memory.Node.{Node}
@@ -46,14 +46,13 @@ Sized heads nodes sets = (length heads ≡ 3 * head_most) × (length nodes ≡ 3
 
 -- Set k of a memory; past the last the empty one.
 unfoldable pub set_at : (sets : List ℕ) (k : ℕ) → States
-unfolding if◌then◌else◌ words_at set_of
+unfolding words_at set_of
 set_at sets k =
     if ltb k set_most then words_at sets (4 * k)
     else set_of (λ s. false)
 
 -- The node that three numbers are. A flag other than 1 counts as 0.
 unfoldable pub node_of : (kind operand second : ℕ) → Node
-unfolding if◌then◌else◌
 node_of kind operand second =
     if eqb kind 0 then Node.Act operand second
     else if eqb kind 1 then Node.Branch operand second
@@ -64,12 +63,11 @@ node_of kind operand second =
 
 -- Node i of a memory; past the last an end.
 unfoldable pub node_at : (nodes : List ℕ) (i : ℕ) → Node
-unfolding if◌then◌else◌ node_of
+unfolding node_of
 node_at nodes i = if ltb i node_most then node_of (get_or nodes (3 * i) 0) (get_or nodes (3 * i + 1) 0) (get_or nodes (3 * i + 2) 0) else Node.End 0
 
 -- The head of action a in a memory; past the last one without replies.
 unfoldable pub head_at : (heads : List ℕ) (a : ℕ) → Head
-unfolding if◌then◌else◌
 head_at heads a =
     if ltb a head_most then record { rows = get_or heads (3 * a) 0; replies = get_or heads (3 * a + 1) 0; count = get_or heads (3 * a + 2) 0 }
     else record { rows = 0; replies = 0; count = 0 }

@@ -8,7 +8,8 @@ use lib.Dec.{eqb, ltb}
 use lib.ListN.{length, replicate, take, drop, set, get_or, length-append, length-drop, take-append-drop}
 use lib.Seq.{drop-cons, set_split, length-take-le}
 use borrow.Author.Tests.{eqb-true}
-use Rattle.lists.specs.Lists.{if◌then◌else◌, every}
+use Rattle.lists.specs.Lists.{every}
+use Rattle.std.specs.Prelude.{if◌then◌else◌}
 use Rattle.lists.proofs.ListLaws.{both_true}
 use Rattle.format.specs.Syntax.{reply_count, Sheet, action_of}
 use Rattle.format.specs.Format.{Answer, gives, refused, on_accepted, reading, most_bytes, most_acts, given_or}
@@ -38,7 +39,7 @@ on_accepted_law f (refused k) y e = let z : ◌≡◌ {A = ℕ} 0 1 = cc in absu
 
 -- What passes the test of 31.
 passing_passed : {A : Type 0} (test : A → Bool) (a : Answer A) (x : A) → passing test a ≡ gives x → (a ≡ gives x) × (test x ≡ true)
-unfolding passing if◌then◌else◌
+unfolding passing
 passing_passed test (refused k) x e = let z : ◌≡◌ {A = ℕ} 0 1 = cc in absurd (omega arith)
 passing_passed test (gives y) x e = go (test y) refl e
   where
@@ -48,7 +49,7 @@ passing_passed test (gives y) x e = go (test y) refl e
 
 -- An accepted report adds its reply to the replies.
 pub reported_adds : (sheet : Sheet) (rs : List ℕ) (x : ℕ) (qs : List ℕ) → reported sheet rs x ≡ gives qs → qs ≡ rs ++ (x ∷ [])
-unfolding reported reported_to if◌then◌else◌
+unfolding reported reported_to
 reported_adds sheet rs x qs e = go (left_after (routine sheet) rs) (history_of (routine sheet) rs) e
   where
     tests : (b c : Bool) → (if b then (if c then gives (rs ++ (x ∷ [])) else refused 34) else refused 33) ≡ gives qs → qs ≡ rs ++ (x ∷ [])
@@ -104,11 +105,11 @@ module _ (l : ℕ) (xs : List ℕ) (n : ℕ) (e : length xs ≡ l) (h : is_padde
 module _ (r : Record) where
   -- What a record holds, by what the parts of 31 say.
   pub sheet_padded : is_padded most_bytes r.sheet r.len ≡ true → sheet_in r ≡ reading (held_sheet r)
-  unfolding sheet_in if◌then◌else◌
+  unfolding sheet_in
   sheet_padded h = ap (λ (b : Bool). if b then reading (held_sheet r) else bad_record) h
 
   pub sheet_not : is_padded most_bytes r.sheet r.len ≡ false → sheet_in r ≡ bad_record
-  unfolding sheet_in if◌then◌else◌
+  unfolding sheet_in
   sheet_not h = ap (λ (b : Bool). if b then reading (held_sheet r) else bad_record) h
 
   pub held_is : (sheet : Sheet) (b : Bool) → sheet_in r ≡ gives sheet → are_replies sheet r.replies r.count ≡ b → held_by r ≡ (if b then gives sheet else bad_record)

@@ -6,7 +6,8 @@ use mathlib.Core.List.{List}
 use mathlib.Core.Bool.{true}
 use lib.ListN.{length, replicate, take, drop}
 use lib.Seq.{take-append_seam, drop-append_seam}
-use Rattle.lists.specs.Lists.{if◌then◌else◌, every}
+use Rattle.lists.specs.Lists.{every}
+use Rattle.std.specs.Prelude.{if◌then◌else◌}
 use Rattle.lists.proofs.ListLaws.{and_both}
 use Rattle.format.specs.Syntax.{Sheet}
 use Rattle.format.specs.Format.{Answer, gives, refused, on_accepted, reading, most_bytes, most_acts, given_or}
@@ -59,7 +60,6 @@ module _ (bytes : List ℕ) (sheet : Sheet) (read : reading bytes ≡ gives shee
       (is_padded_law most_acts rs (replies_most bytes sheet read rs run)) (ap (are_of_run sheet) (before_bytes most_acts rs) ∙ run_of sheet rs run)
 
   held : held_by (record_of bytes rs) ≡ gives sheet
-  unfolding if◌then◌else◌
   held = held_is (record_of bytes rs) sheet true sheet_held replies_held
 
   pub next_held : next_on (record_of bytes rs) ≡ gives (told sheet rs)

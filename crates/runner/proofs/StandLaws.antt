@@ -8,7 +8,8 @@ use lib.Dec.{ltb}
 use lib.ListN.{length, get_or, take, drop, drop_of_length-le}
 use borrow.Author.Tests.{lt-ltb, le-ltb, not-true, not-false}
 use Rattle.lists.proofs.ListLaws.{drop_next}
-use Rattle.lists.specs.Lists.{if◌then◌else◌, nonempty}
+use Rattle.lists.specs.Lists.{nonempty}
+use Rattle.std.specs.Prelude.{if◌then◌else◌}
 use Rattle.states.specs.declared.States.{States}
 use Rattle.states.specs.Sets.{members}
 use Rattle.routine.specs.declared.memory.Head.{Head}
@@ -51,12 +52,10 @@ module _ (heads sets : List ℕ) (set : States) (r : ℕ) (onward : States → (
     by_states = refl
 
     pub none_possible : nonempty (members (stepped heads sets set action r)) ≡ false → goes_on heads sets (Place.Act node action) set r onward ≡ Walked.Nowhere
-    unfolding if◌then◌else◌
     none_possible e = by_states ∙ ap (λ (b : Bool). if b then onward (stepped heads sets set action r) (node + 1) else Walked.Nowhere) e
 
     pub some_possible : nonempty (members (stepped heads sets set action r)) ≡ true
         → goes_on heads sets (Place.Act node action) set r onward ≡ onward (stepped heads sets set action r) (node + 1)
-    unfolding if◌then◌else◌
     some_possible e = by_states ∙ ap (λ (b : Bool). if b then onward (stepped heads sets set action r) (node + 1) else Walked.Nowhere) e
 
 -- What the code asks of a set: whether it is empty.
@@ -119,7 +118,6 @@ module _ (heads sets : List ℕ) (set : States) (action reply : ℕ) where
     count_is = ap (λ (x : Head). x.count) h
 
     pub no_reply : head.count ≤ reply → Judged.Refused Rejection.NoSuchReply ≡ judged heads sets set action reply
-    unfolding if◌then◌else◌
     no_reply l = sym (judged_by_law false _ (le-ltb reply (head_at heads action).count (omega (arith, l, count_is))) refl)
 
     module _ (l : reply < head.count) (passed : Passed) (p : passed ≡ by_pass) where
@@ -127,11 +125,9 @@ module _ (heads sets : List ℕ) (set : States) (action reply : ℕ) where
       by_possible some e = judged_by_law true some (lt-ltb reply (head_at heads action).count (omega (arith, l, count_is))) (ap (λ (x : Passed). x.possible) (sym p) ∙ e)
 
       pub possible : passed.possible ≡ true → Judged.Kept passed.kept ≡ judged heads sets set action reply
-      unfolding if◌then◌else◌
       possible e = ap (λ (x : Passed). Judged.Kept x.kept) p ∙ sym (by_possible true e)
 
       pub impossible : passed.possible ≡ false → Judged.Refused Rejection.NotPossible ≡ judged heads sets set action reply
-      unfolding if◌then◌else◌
       impossible e = sym (by_possible false e)
 
 -- What is told and answered at an action, and at the end.
@@ -177,9 +173,9 @@ module _ (heads nodes sets bytes replies : List ℕ) (count : ℕ) where
     is_padded_law = sym (t ∙ ap (λ (n : ℕ). is_padded n replies count) long)
 
     pub walk_unpadded : b ≡ false → walked_of Walked.Nowhere ≡ walked heads nodes sets bytes replies count
-    unfolding walked_of stands_by if◌then◌else◌
+    unfolding walked_of stands_by
     walk_unpadded f = sym (ap (λ (c : Bool). gives (if c then stands_from heads nodes sets start 0 (take count replies) else Walked.Nowhere)) (is_padded_law ∙ f)) ∙ by_start
 
     pub walk_followed : b ≡ true → (w : Walked) → walked_of w ≡ gives (stands_from heads nodes sets start 0 (take count replies)) → walked_of w ≡ walked heads nodes sets bytes replies count
-    unfolding stands_by if◌then◌else◌
+    unfolding stands_by
     walk_followed f w s = s ∙ sym (ap (λ (c : Bool). gives (if c then stands_from heads nodes sets start 0 (take count replies) else Walked.Nowhere)) (is_padded_law ∙ f)) ∙ by_start

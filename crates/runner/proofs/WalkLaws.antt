@@ -7,7 +7,8 @@ use mathlib.Core.Bool.{Bool, true, false, ◌&&◌}
 use native.Mathlib.Omega.{arith}
 use lib.Dec.{ltb}
 use lib.ListN.{length, take}
-use Rattle.lists.specs.Lists.{if◌then◌else◌, nonempty}
+use Rattle.lists.specs.Lists.{nonempty}
+use Rattle.std.specs.Prelude.{if◌then◌else◌}
 use Rattle.lists.proofs.ListLaws.{two_cases, not_both}
 use Rattle.states.specs.declared.States.{States}
 use Rattle.states.specs.Sets.{members}
@@ -217,7 +218,7 @@ report_of (Judged.Refused why) = Reported.Refused why
 
 -- The answer's number is that of the report.
 same_answer : (has some : Bool) (kept : States) (xs : List ℕ) → reported_of (report_of (answered has some kept)) ≡ without_value (if has then (if some then gives xs else refused 34) else refused 33)
-unfolding reported_of report_of without_value if◌then◌else◌
+unfolding reported_of report_of without_value
 same_answer true true kept xs = refl
 same_answer true false kept xs = refl
 same_answer false some kept xs = refl
@@ -229,7 +230,7 @@ by_run b a = if b then a else bad_record
 module _ (bytes : List ℕ) (sheet : Sheet) (read : reading bytes ≡ gives sheet) (heads nodes sets : List ℕ) (tabled : Tabled sheet heads nodes sets) (rs : List ℕ) where
   -- What is told where the replies lead is what "Next" tells.
   led_told : (stand : Walked) → Led sheet heads nodes sets stand rs → told_of (told_at stand) ≡ by_run (are_of_run sheet rs) (gives (told sheet rs))
-  unfolding told_of told_at told_by if◌then◌else◌
+  unfolding told_of told_at told_by
   led_told stand (inl x) = ap (λ (s : Walked). told_of (told_at s)) x.stands ∙ sym (ap (λ (b : Bool). by_run b (gives (told sheet rs))) x.no_run)
   led_told stand (inr (inl x)) =
       ap (λ (s : Walked). told_of (told_at s)) x.stands
@@ -264,7 +265,7 @@ module _ (bytes : List ℕ) (sheet : Sheet) (read : reading bytes ≡ gives shee
 
     -- What is answered to one reply more where the replies lead is what "Report" answers.
     led_reported : (stand : Walked) → Led sheet heads nodes sets stand rs → reported_of (report_of (judged_at heads sets stand r)) ≡ without_value (by_run (are_of_run sheet rs) (reported sheet rs r))
-    unfolding reported_of report_of judged_at without_value if◌then◌else◌
+    unfolding reported_of report_of judged_at without_value
     led_reported stand (inl x) = ap (λ (s : Walked). reported_of (report_of (judged_at heads sets s r))) x.stands ∙ ap without_value (sym (ap (λ (b : Bool). by_run b (reported sheet rs r)) x.no_run))
     led_reported stand (inr (inl x)) =
         ap (λ (s : Walked). reported_of (report_of (judged_at heads sets s r))) x.stands
@@ -320,11 +321,11 @@ module _ (r : Record) where
     by_padding b = if b then walked heads nodes sets (held_sheet r) r.replies r.count else gives Walked.Nowhere
 
     not_there : is_padded most_bytes r.sheet r.len ≡ false → stands heads nodes sets r ≡ gives Walked.Nowhere
-    unfolding stands if◌then◌else◌
+    unfolding stands
     not_there e = ap by_padding e
 
     is_there : is_padded most_bytes r.sheet r.len ≡ true → stands heads nodes sets r ≡ walked heads nodes sets (held_sheet r) r.replies r.count
-    unfolding stands if◌then◌else◌
+    unfolding stands
     is_there e = ap by_padding e
 
     pub stands_not : is_padded most_bytes r.sheet r.len ≡ false → walked_of Walked.Nowhere ≡ stands heads nodes sets r
@@ -386,7 +387,7 @@ module _ (r : Record) (heads nodes sets : List ℕ) (sized : Sized heads nodes s
     )
 
     told_there : (b : Bool) → is_padded most_acts r.replies r.count ≡ b → told_of (told_in there) ≡ next_on r
-    unfolding told_of told_in next_on on_accepted if◌then◌else◌
+    unfolding told_of told_in next_on on_accepted
     told_there true q =
         ap (λ (a : Answer Walked). told_of (told_in a)) (by_count true q).0 ∙ led_told (held_sheet r) sheet read heads' nodes' sets' tabled_there (held_replies r) followed led_there
         ∙ sym (ap (on_accepted (λ (s : Sheet). gives (told s (held_replies r)))) (by_count true q).1 ∙ go (are_of_run sheet (held_replies r)))
@@ -398,7 +399,7 @@ module _ (r : Record) (heads nodes sets : List ℕ) (sized : Sized heads nodes s
         ap (λ (a : Answer Walked). told_of (told_in a)) (by_count false q).0 ∙ sym (ap (on_accepted (λ (s : Sheet). gives (told s (held_replies r)))) (by_count false q).1)
 
     report_there : (x : ℕ) (b : Bool) → is_padded most_acts r.replies r.count ≡ b → reported_of (report_in heads' sets' there x) ≡ without_value (report_on r x)
-    unfolding reported_of without_value report_in report_on on_accepted if◌then◌else◌
+    unfolding reported_of without_value report_in report_on on_accepted
     report_there x true q =
         ap (λ (a : Answer Walked). reported_of (report_in heads' sets' a x)) (by_count true q).0 ∙ led_reported (held_sheet r) sheet read heads' nodes' sets' tabled_there (held_replies r) x followed led_there
         ∙ ap without_value (sym (ap (on_accepted (λ (s : Sheet). reported s (held_replies r) x)) (by_count true q).1 ∙ go (are_of_run sheet (held_replies r))))

@@ -1,6 +1,7 @@
 -- The record, and what loading, "Next" and "Report" make of it. Document 01, "The runner" and "From the memory and the record".
 use Rattle.std.specs.Prelude.{ℕ, ◌-◌, List, [], ◌∷◌, ◌++◌, ◌≡◌, refl, Bool, true, false, ◌&&◌, leb, eqb, length, replicate, take, drop}
-use Rattle.lists.specs.Lists.{if◌then◌else◌, every}
+use Rattle.lists.specs.Lists.{every}
+use Rattle.std.specs.Prelude.{if◌then◌else◌}
 use Rattle.format.specs.Syntax.{Sheet}
 use Rattle.format.specs.Format.{Answer, gives, refused, on_accepted, given_or, most_bytes, most_acts, reading}
 use Rattle.semantics.specs.Replies.{Told, to_do, at_end, told, reported, are_of_run}
@@ -45,7 +46,7 @@ is_padded most bytes n = leb n most && are_zero (drop n bytes)
 
 -- What 31 asks of the sheet and its length: the sheet, unless "the record's sheet would be refused", as one of more than 1,024 bytes is, or a byte past the length isn't 0.
 unfoldable pub sheet_in : Record → Answer Sheet
-unfolding if◌then◌else◌ is_padded reading held_sheet rejection_number
+unfolding is_padded reading held_sheet rejection_number
 sheet_in r = if is_padded most_bytes r.sheet r.len then reading (held_sheet r) else bad_record
 
 -- What 31 asks of replies and their count: a byte past the count is 0, "the reply count is above 64" isn't so, and the replies are "those of a run following the routine".
@@ -55,7 +56,7 @@ are_replies sheet replies count = is_padded most_acts replies count && are_of_ru
 
 -- What is given and passes a test; else 31.
 unfoldable pub passing : {A : Type 0} → (A → Bool) → Answer A → Answer A
-unfolding given_or if◌then◌else◌ rejection_number
+unfolding given_or rejection_number
 passing test answer = given_or bad_record (λ a. if test a then gives a else bad_record) answer
 
 -- The sheet of a record, or 31.

@@ -2,7 +2,8 @@
 use Rattle.std.specs.Prelude.{ℕ, ◌+◌, take}
 use mathlib.Core.List.{List, [], ◌∷◌}
 use Rattle.std.proofs.Math.Dec.{ltb}
-use Rattle.lists.specs.Lists.{if◌then◌else◌, nonempty}
+use Rattle.lists.specs.Lists.{nonempty}
+use Rattle.std.specs.Prelude.{if◌then◌else◌}
 use Rattle.states.specs.declared.States.{States}
 use Rattle.states.specs.Sets.{members}
 use Rattle.format.specs.Format.{Answer, gives, refused, on_accepted, most_bytes, most_acts, reading}
@@ -29,7 +30,7 @@ walked_of (Walked.Refused r) = refused (number_of r)
 module _ (heads : List ℕ) where
   -- A reply leads on from an action if some state is possible behind it.
   unfoldable pub goes_on : (sets : List ℕ) → Place → States → (reply : ℕ) → (onward : States → (at : ℕ) → Walked) → Walked
-  unfolding if◌then◌else◌ nonempty members stepped
+  unfolding nonempty members stepped
   goes_on sets (Place.End holds) set reply onward = Walked.Nowhere
   goes_on sets (Place.Act node action) set reply onward =
       if nonempty (members (stepped heads sets set action reply)) then onward (stepped heads sets set action reply) (node + 1) else Walked.Nowhere
@@ -42,7 +43,7 @@ module _ (heads : List ℕ) where
 
   -- From the first node on, by so many replies of a memory.
   unfoldable pub stands_by : (nodes sets : List ℕ) → (replies : List ℕ) (count : ℕ) → States → Walked
-  unfolding if◌then◌else◌ is_padded stands_from
+  unfolding is_padded stands_from
   stands_by nodes sets replies count start = if is_padded most_acts replies count then stands_from nodes sets start 0 (take count replies) else Walked.Nowhere
 
   -- From the start of a sheet that bytes are.
@@ -52,12 +53,12 @@ module _ (heads : List ℕ) where
 
   -- Of a record.
   unfoldable pub stands : (nodes sets : List ℕ) → Record → Answer Walked
-  unfolding if◌then◌else◌ is_padded walked held_sheet
+  unfolding is_padded walked held_sheet
   stands nodes sets r = if is_padded most_bytes r.sheet r.len then walked nodes sets (held_sheet r) r.replies r.count else gives Walked.Nowhere
 
   -- A reply to an action, where the states of a set are possible after the effect: 33 before 34, and the states that the pass keeps.
   unfoldable pub judged : (sets : List ℕ) → States → (action reply : ℕ) → Judged
-  unfolding if◌then◌else◌ passed_by head_at
+  unfolding passed_by head_at
   judged sets set action reply =
       if ltb reply (head_at heads action).count then
       (if (passed_by heads sets set action reply).possible then Judged.Kept (passed_by heads sets set action reply).kept else Judged.Refused Rejection.NotPossible)

@@ -11,7 +11,8 @@ use lib.ListN.{length, take, drop, replicate, length-replicate, length-append, l
 use lib.Seq.{take-append-le, drop-append-le, take-append_seam, drop-append_seam, length-take-le}
 use borrow.Author.Tests.{ltb-true, ltb-false, lt-ltb, le-ltb}
 use Rattle.lists.proofs.ListLaws.{keep_append, kept_length}
-use Rattle.lists.specs.Lists.{if◌then◌else◌, keep, AllUnder}
+use Rattle.lists.specs.Lists.{keep, AllUnder}
+use Rattle.std.specs.Prelude.{if◌then◌else◌}
 use Rattle.format.specs.Syntax.{Sheet}
 use Rattle.format.specs.Format.{Answer, gives, refused, on_accepted, most_bytes, reading, is_edition, header}
 use Rattle.format.proofs.ReaderLaws.{sheet_long}
@@ -23,11 +24,11 @@ use Rattle.semantics.specs.Figures.{framed, AllSaid, First, whole, none, behind_
 
 -- What stands first.
 pub first_some : (n : ℕ) (rest : List ℕ) → n ≤ length rest → behind_length n rest ≡ whole (take n rest) (drop n rest)
-unfolding behind_length if◌then◌else◌
+unfolding behind_length
 first_some n rest h = ap (λ (b : Bool). if b then none else whole (take n rest) (drop n rest)) (le-ltb (length rest) n h)
 
 pub first_cut : (n : ℕ) (rest : List ℕ) → length rest < n → behind_length n rest ≡ none
-unfolding behind_length if◌then◌else◌
+unfolding behind_length
 first_cut n rest h = ap (λ (b : Bool). if b then none else whole (take n rest) (drop n rest)) (lt-ltb (length rest) n h)
 
 never : {A : Type 0} {s r : List ℕ} → none ≡ whole s r → A
@@ -145,7 +146,7 @@ reading_long bytes h = reading_refused bytes (sym (sheet_long (header is_edition
 each_once : (a : Answer Verdict) (answers : List (Answer Verdict))
     → how_many is_valid (a ∷ answers) + how_many is_invalid (a ∷ answers) + how_many is_stopped (a ∷ answers) + how_many is_refused (a ∷ answers)
     ≡ suc (how_many is_valid answers + how_many is_invalid answers + how_many is_stopped answers + how_many is_refused answers)
-unfolding how_many keep if◌then◌else◌ is_valid is_invalid is_stopped is_refused
+unfolding how_many keep is_valid is_invalid is_stopped is_refused
 each_once (gives (valid c)) answers = omega arith
 each_once (gives (invalid c l)) answers = omega arith
 each_once (gives (stopped b)) answers = omega arith
@@ -171,13 +172,13 @@ figures_add_up stream =
 
 -- The verdict over and within the budget.
 over_budget : (sheet : Sheet) (budget : ℕ) → ltb budget (history_count sheet) ≡ true → (outcome sheet budget).verdict ≡ stopped budget
-unfolding outcome if◌then◌else◌
+unfolding outcome
 over_budget sheet budget e =
     ap (λ (b : Bool). (if b then record { verdict = stopped budget; shown = [] } else concluded sheet (history_count sheet) (failures sheet)).verdict) e
 
 within_budget : (sheet : Sheet) (budget : ℕ) → ltb budget (history_count sheet) ≡ false
     → (outcome sheet budget).verdict ≡ (concluded sheet (history_count sheet) (failures sheet)).verdict
-unfolding outcome if◌then◌else◌
+unfolding outcome
 within_budget sheet budget e =
     ap (λ (b : Bool). (if b then record { verdict = stopped budget; shown = [] } else concluded sheet (history_count sheet) (failures sheet)).verdict) e
 
@@ -216,7 +217,7 @@ sum_append f (x ∷ xs) ys = let rest = sum_append f xs ys in omega (arith, rest
 
 -- The greater of two numbers.
 pub greater_right : (a b : ℕ) → a ≤ b → greater a b ≡ b
-unfolding greater if◌then◌else◌
+unfolding greater
 greater_right a b h = go (ltb a b) refl
   where
     go : (t : Bool) → ltb a b ≡ t → (if t then b else a) ≡ b
@@ -224,7 +225,7 @@ greater_right a b h = go (ltb a b) refl
     go false e = omega (arith, h, ltb-false a b e)
 
 pub greater_left : (a b : ℕ) → b ≤ a → greater a b ≡ a
-unfolding greater if◌then◌else◌
+unfolding greater
 greater_left a b h = go (ltb a b) refl
   where
     go : (t : Bool) → ltb a b ≡ t → (if t then b else a) ≡ a

@@ -9,7 +9,8 @@ use native.Mathlib.Omega.{arith}
 use lib.Dec.{eqb}
 use lib.ListN.{length}
 use borrow.Author.Tests.{eqb-true, eq-eqb}
-use Rattle.lists.specs.Lists.{if◌then◌else◌, keep, below, Sorted, Before}
+use Rattle.lists.specs.Lists.{keep, below, Sorted, Before}
+use Rattle.std.specs.Prelude.{if◌then◌else◌}
 use Rattle.lists.proofs.ListLaws.{two_cases, not_both, both_true, keep_mem, mem_keep, flat_mem, mem_flat, mem_up_from}
 use Rattle.lists.proofs.OrderLaws.{sorted_flat, sorted_keep, sorted_up_from, before_behind}
 use Rattle.format.specs.Syntax.{Epistemic, Program, end, act, branch, action_nodes, reply_count, Sheet, action_of}

@@ -9,7 +9,7 @@ use lib.Dec.{ltb}
 use lib.ListN.{length, take, drop, length-append, length-drop}
 use lib.Seq.{take_at}
 use borrow.Author.Tests.{ltb-false, lt-ltb, le-ltb}
-use Rattle.lists.specs.Lists.{if◌then◌else◌}
+use Rattle.std.specs.Prelude.{if◌then◌else◌}
 use Rattle.format.specs.Syntax.{Sheet}
 use Rattle.format.specs.Format.{Answer, gives, refused, on_accepted, reading}
 use Rattle.semantics.specs.Routine.{Failing, Full, Following}
@@ -19,11 +19,11 @@ use Rattle.semantics.proofs.AcceptedLaws.{starts, actions_most, trace_length, tr
 
 -- Where the memory is long enough the sheet decides; else it is 30.
 pub admitted_long : (bytes old : List ℕ) → LongEnough old → admitted bytes old ≡ reading bytes
-unfolding admitted if◌then◌else◌
+unfolding admitted
 admitted_long bytes old enough = rw (le-ltb (length old) longest_trace enough)
 
 pub admitted_short : (bytes old : List ℕ) → length old < longest_trace → admitted bytes old ≡ short_memory
-unfolding admitted if◌then◌else◌
+unfolding admitted
 admitted_short bytes old l = rw (lt-ltb (length old) longest_trace l)
 
 -- A call's answer and memory for what was read.
@@ -100,7 +100,7 @@ module _ (bytes : List ℕ) (sheet : Sheet) (read : reading bytes ≡ gives shee
 
 -- So it is after every call on every input.
 pub memory_kept : (bytes : List ℕ) (budget : ℕ) (old : List ℕ) → Kept bytes old (verified bytes budget old)
-unfolding verified admitted outcome_of on_accepted verdict_of shown_by written if◌then◌else◌
+unfolding verified admitted outcome_of on_accepted verdict_of shown_by written
 memory_kept bytes budget old = go (ltb (length old) longest_trace) refl (reading bytes) refl
   where
     no_verdict : (r : ℕ) (v : Verdict) → ◌≡◌ {A = Answer Verdict} (refused r) (gives v) → ⊥

@@ -6,7 +6,7 @@ use mathlib.Core.Bool.{Bool, true, false}
 use native.Mathlib.Omega.{arith}
 use lib.Dec.{ltb}
 use borrow.Author.Tests.{ltb-true, ltb-false, lt-ltb, le-ltb}
-use Rattle.lists.specs.Lists.{if◌then◌else◌}
+use Rattle.std.specs.Prelude.{if◌then◌else◌}
 use Rattle.semantics.specs.Printing.{digit, decimal_within, decimal}
 
 -- The bound on the digits doesn't matter above the number.
@@ -23,12 +23,12 @@ within_same (suc d) (suc e) n h i = go (ltb n 10) refl (λ m. within_same d e (n
 
 -- A number below 10 is its digit.
 pub decimal_small : (n : ℕ) → n < 10 → decimal n ≡ digit n ∷ []
-unfolding decimal decimal_within if◌then◌else◌
+unfolding decimal decimal_within
 decimal_small n h = let e : n % 10 ≡ n = omega arith in rw (e, lt-ltb n 10 h)
 
 -- Any other is the decimal of its tenth, and the digit of what is left.
 pub decimal_more : (n : ℕ) → 10 ≤ n → decimal n ≡ decimal (n / 10) ++ (digit (n % 10) ∷ [])
-unfolding decimal decimal_within if◌then◌else◌
+unfolding decimal decimal_within
 decimal_more n h = rw (le-ltb n 10 h) (ap (λ (ds : List ℕ). ds ++ (digit (n % 10) ∷ [])) (within_same n (suc (n / 10)) (n / 10) (omega arith) (omega arith)))
 
 -- The number that decimal digits say, the high digits first: each digit multiplies what stands before it, `high`, by ten, and is added.
@@ -48,7 +48,7 @@ value_last high (c ∷ ds) b = value_last (high * 10 + (c - 0x30)) ds b
 
 -- A decimal digit says its number.
 digit_value : (d : ℕ) → d < 10 → digit d - 0x30 ≡ d
-unfolding digit if◌then◌else◌
+unfolding digit
 digit_value d h = rw (lt-ltb d 10 h) (omega arith)
 
 -- The decimal of a number below d says the number.

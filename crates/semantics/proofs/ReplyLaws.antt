@@ -8,7 +8,8 @@ use native.Mathlib.Omega.{arith}
 use lib.Dec.{ltb, eqb}
 use lib.ListN.{length, length-map}
 use borrow.Author.Tests.{lt-ltb, eqb-true, eq-eqb}
-use Rattle.lists.specs.Lists.{if◌then◌else◌, exists, nonempty}
+use Rattle.lists.specs.Lists.{exists, nonempty}
+use Rattle.std.specs.Prelude.{if◌then◌else◌}
 use Rattle.lists.proofs.ListLaws.{two_cases, same_test, not_both, both_true, and_both, keep_mem, mem_keep, exists_mem, mem_exists, mem_nonempty, nonempty_mem}
 use Rattle.format.specs.Syntax.{reply_count, Sheet, action_of}
 use Rattle.format.specs.Truth.{is_state, states}
@@ -154,13 +155,13 @@ module _ (sheet : Sheet) where
   -- A report behind the replies of a history that follows: it is accepted exactly if an action is left and some run has the history with it and the reply.
   next_reported : (h : History) (a : ℕ) (after : ℕ → Policy) (r : ℕ) → Follows (routine sheet) h → left_after (routine sheet) (replies h) ≡ perform a after
       → occurs sheet (extended h a r) ≡ true → reported sheet (replies h) r ≡ gives (replies h ++ (r ∷ []))
-  unfolding reported reported_to if◌then◌else◌
+  unfolding reported reported_to
   next_reported h a after r f e o =
       rw (follows_history (routine sheet) h f, e, lt-ltb r (reply_count (action_of sheet a)) (occurs_reply sheet h a r o), still_occurs h a r ∙ o)
 
   reported_next : (h : History) (r : ℕ) (rs : List ℕ) → Follows (routine sheet) h → reported sheet (replies h) r ≡ gives rs
       → (a : ℕ) × (after : ℕ → Policy) × (left_after (routine sheet) (replies h) ≡ perform a after) × (occurs sheet (extended h a r) ≡ true)
-  unfolding reported reported_to if◌then◌else◌
+  unfolding reported reported_to
   reported_next h r rs f e = go (left_after (routine sheet) (replies h)) refl (rw (follows_history (routine sheet) h f) at e)
     where
       tests : (a : ℕ) (after : ℕ → Policy) (b c : Bool) → still_possible sheet h (entry a r) ≡ c

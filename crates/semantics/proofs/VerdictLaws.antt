@@ -8,7 +8,8 @@ use native.Mathlib.Omega.{arith}
 use lib.Dec.{ltb}
 use lib.ListN.{length}
 use borrow.Author.Tests.{not-true, ltb-true, ltb-false, le-ltb, lt-ltb}
-use Rattle.lists.specs.Lists.{if◌then◌else◌, up_to, nonempty, Sorted, Before}
+use Rattle.lists.specs.Lists.{up_to, nonempty, Sorted, Before}
+use Rattle.std.specs.Prelude.{if◌then◌else◌}
 use Rattle.lists.proofs.ListLaws.{two_cases, not_both, both_true, and_both, keep_mem, mem_keep}
 use Rattle.lists.proofs.OrderLaws.{sorted_keep, sorted_up_to, up_to_mem, up_to_first, mem_up_to, before_asym}
 use Rattle.format.specs.Syntax.{Sheet}
@@ -136,11 +137,11 @@ module _ (sheet : Sheet) where
 
   -- "stopped" is answered, with the budget, exactly if the count exceeds the budget.
   pub means_stopped : (budget : ℕ) → budget < history_count sheet → outcome sheet budget ≡ record { verdict = stopped budget; shown = [] }
-  unfolding outcome if◌then◌else◌
+  unfolding outcome
   means_stopped budget l = rw (lt-ltb budget (history_count sheet) l)
 
   pub within_budget : (budget : ℕ) → history_count sheet ≤ budget → outcome sheet budget ≡ concluded sheet (history_count sheet) (failures sheet)
-  unfolding outcome if◌then◌else◌
+  unfolding outcome
   within_budget budget l = rw (le-ltb budget (history_count sheet) l)
 
   -- The budget is exceeded or the outcome is concluded.

@@ -1,6 +1,7 @@
 -- The release figures of a stream of sheets. Document 02, "Release figures for a whole product line".
 use Rattle.std.specs.Prelude.{ℕ, zero, suc, ◌+◌, ◌*◌, ◌/◌, ◌%◌, ◌≤◌, ◌≡◌, refl, List, [], ◌∷◌, ◌++◌, map, Bool, true, false, ltb, length, take, drop, replicate}
-use Rattle.lists.specs.Lists.{if◌then◌else◌, keep}
+use Rattle.lists.specs.Lists.{keep}
+use Rattle.std.specs.Prelude.{if◌then◌else◌}
 use Rattle.format.specs.Syntax.{Sheet}
 use Rattle.format.specs.Format.{Answer, gives, refused, reading}
 use Rattle.semantics.specs.Verdict.{Verdict, valid, invalid, stopped, outcome_of, verdict_of}
@@ -23,7 +24,6 @@ pub data First : Type 0 where
 
 -- Behind a length of n.
 unfoldable pub behind_length : (n : ℕ) (rest : List ℕ) → First
-unfolding if◌then◌else◌
 behind_length n rest = if ltb (length rest) n then none else whole (take n rest) (drop n rest)
 
 unfoldable pub first : (stream : List ℕ) → First
@@ -124,7 +124,6 @@ sum_of [] = 0
 sum_of (x ∷ xs) = x + sum_of xs
 
 unfoldable pub greater : (a b : ℕ) → ℕ
-unfolding if◌then◌else◌
 greater a b = if ltb a b then b else a
 
 unfoldable pub greatest_of : List ℕ → ℕ

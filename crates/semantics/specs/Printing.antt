@@ -1,6 +1,6 @@
 -- The lines that `planverify` prints, as bytes. Document 01, "The trace checker and the command".
 use Rattle.std.specs.Prelude.{ℕ, zero, suc, ◌+◌, ◌/◌, ◌%◌, List, [], ◌∷◌, ◌++◌, ltb}
-use Rattle.lists.specs.Lists.{if◌then◌else◌}
+use Rattle.std.specs.Prelude.{if◌then◌else◌}
 use Rattle.format.specs.Format.{Answer, gives, refused, reading}
 use Rattle.semantics.specs.Verdict.{Verdict, valid, invalid, stopped, outcome_of, verdict_of, shown_by}
 
@@ -13,12 +13,11 @@ line_feed = 0x0A
 
 -- The digit of a number below 16, lower-case.
 unfoldable pub digit : ℕ → ℕ
-unfolding if◌then◌else◌
 digit d = if ltb d 10 then 0x30 + d else 0x57 + d
 
 -- A number in decimal, without leading zeros. The first argument bounds the number of digits; proofs/PrintingLaws.antt has the equations without it.
 unfoldable pub decimal_within : (digits n : ℕ) → List ℕ
-unfolding digit if◌then◌else◌
+unfolding digit
 decimal_within zero n = []
 decimal_within (suc digits) n =
     let higher = decimal_within digits (n / 10) in

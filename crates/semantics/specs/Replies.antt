@@ -1,7 +1,8 @@
 -- What the routine tells after a list of replies, and which further reply is accepted. Document 01, "The runner" and "From the memory and the record".
 -- (The record stands with the runner.)
 use Rattle.std.specs.Prelude.{ℕ, ◌≡◌, List, [], ◌∷◌, ◌++◌, Bool, ◌&&◌, ltb, eqb, length}
-use Rattle.lists.specs.Lists.{if◌then◌else◌, exists, nonempty}
+use Rattle.lists.specs.Lists.{exists, nonempty}
+use Rattle.std.specs.Prelude.{if◌then◌else◌}
 use Rattle.format.specs.Syntax.{reply_count, Sheet, action_of}
 use Rattle.format.specs.Format.{Answer, gives, refused}
 use Rattle.semantics.specs.Runs.{Entry, History, entry, replies, next_states, possible_states, holds_after, occurs}
@@ -41,7 +42,7 @@ still_possible sheet h e = exists (λ s. nonempty (next_states sheet e s)) (poss
 -- Reporting reply r after the replies rs: "adds one reply", or 32, routine at its end; 33, no such reply (for a change: not 0); 34, the reply is true in no state
 -- still possible. "Tested in that order."
 unfoldable pub reported_to : Sheet → Policy → History → (rs : List ℕ) (r : ℕ) → Answer (List ℕ)
-unfolding reply_count action_of still_possible if◌then◌else◌
+unfolding reply_count action_of still_possible
 reported_to sheet done h rs r = refused 32
 reported_to sheet (perform a after) h rs r =
     if ltb r (reply_count (action_of sheet a)) then (if still_possible sheet h (entry a r) then gives (rs ++ (r ∷ [])) else refused 34) else refused 33

@@ -1,6 +1,6 @@
 -- Following the routine. Document 01, "Runs and what is known".
 use Rattle.std.specs.Prelude.{ℕ, List, [], ◌∷◌, Bool, true, false, ◌&&◌, ◌≡◌, eqb}
-use Rattle.lists.specs.Lists.{if◌then◌else◌}
+use Rattle.std.specs.Prelude.{if◌then◌else◌}
 use Rattle.format.specs.Syntax.{Program, end, act, branch, Sheet}
 use Rattle.semantics.specs.Runs.{History, extended, IsRun, Holds, holds_after}
 
@@ -15,7 +15,7 @@ pub data Policy : Type 0 where
 -- What a program has to do after history h, where `onward` is what follows its end: "a branch goes to its then-program if its condition holds after the
 -- history so far, else to its else-program, and afterwards to its rest". (2012, 2013: the else-program whenever the condition doesn't hold, known to fail or not.)
 unfoldable pub policy : Sheet → Program → (onward : History → Policy) → History → Policy
-unfolding holds_after if◌then◌else◌
+unfolding holds_after
 policy sheet end onward h = onward h
 policy sheet (act a rest) onward h = perform a (λ r. policy sheet rest onward (extended h a r))
 policy sheet (branch f p q rest) onward h =

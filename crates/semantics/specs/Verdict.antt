@@ -1,7 +1,8 @@
 -- The verifier's answer and the trace memory. Document 01, "The verifier".
 use Rattle.std.specs.Prelude.{ℕ, ◌+◌, ◌*◌, ◌≤◌, ◌≡◌, ◌⊎◌, Bool, not, ◌&&◌, ltb, length, drop}
 use mathlib.Core.List.{List, [], ◌∷◌, ◌++◌, flat_map, head_d}
-use Rattle.lists.specs.Lists.{if◌then◌else◌, up_from, below, keep, up_to, nonempty, Before}
+use Rattle.lists.specs.Lists.{up_from, below, keep, up_to, nonempty, Before}
+use Rattle.std.specs.Prelude.{if◌then◌else◌}
 use Rattle.format.specs.Syntax.{reply_count, Sheet, action_of}
 use Rattle.format.specs.Format.{Answer, gives, refused, on_accepted, given_or, most_acts, reading}
 use Rattle.semantics.specs.Runs.{History, extended, replies, runs, holds_after, occurs}
@@ -82,7 +83,7 @@ concluded sheet c (h ∷ later) = record { verdict = invalid c (length h); shown
 
 -- "It answers "stopped" with the budget if and only if that count exceeds the budget".
 unfoldable pub outcome : Sheet → (budget : ℕ) → Outcome
-unfolding history_count failures concluded if◌then◌else◌
+unfolding history_count failures concluded
 outcome sheet budget =
     if ltb budget (history_count sheet) then record { verdict = stopped budget; shown = [] } else concluded sheet (history_count sheet) (failures sheet)
 
@@ -123,7 +124,7 @@ short_memory = refused 30
 
 -- The sheet that is verified, or why none is.
 unfoldable pub admitted : (bytes old : List ℕ) → Answer Sheet
-unfolding reading if◌then◌else◌
+unfolding reading
 admitted bytes old = if ltb (length old) longest_trace then short_memory else reading bytes
 
 -- The verifier "takes a sheet, a budget (32 bits) and the trace memory".

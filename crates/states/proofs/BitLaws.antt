@@ -8,7 +8,7 @@ use lib.Pow.{pow-lt, shr-shr}
 use lib.Dec.{eqb, eqb-zero-suc, eqb-suc-zero, eqb-suc-suc}
 use lib.Count.{count_trailing_zeros}
 use lib.Bits.{bit_and, bit_or, bit_xor, and_shr, and_mod, or_shr, or_mod, xor_shr, xor_mod, or_add_and, and_le_l, and_le_r}
-use Rattle.lists.specs.Lists.{if◌then◌else◌}
+use Rattle.std.specs.Prelude.{if◌then◌else◌}
 use Rattle.states.specs.Sets.{bit, word_of}
 
 -- The lowest bit.
@@ -111,19 +111,16 @@ num b = if b then 1 else 0
 
 -- It is 0 or 1.
 num_lt : (b : Bool) → num b < 2
-unfolding if◌then◌else◌
 num_lt true = omega arith
 num_lt false = omega arith
 
 -- The test of the digit of a test.
 num_test : (b : Bool) → eqb (num b) 1 ≡ b
-unfolding if◌then◌else◌
 num_test true = refl
 num_test false = refl
 
 -- The digit of the test of a digit.
 test_num : (d : ℕ) → d < 2 → num (eqb d 1) ≡ d
-unfolding if◌then◌else◌
 test_num zero h = refl
 test_num (suc zero) h = refl
 test_num (suc (suc d)) h = absurd (omega arith)

@@ -10,7 +10,8 @@ use lib.ListN.{length, get_or, set, get_or-eq_default}
 use lib.Seq.{set_out}
 use lib.Bits.{bit_or}
 use borrow.Author.Tests.{eq-eqb, ne_eqb, eqb-true}
-use Rattle.lists.specs.Lists.{if◌then◌else◌, up_from, below, keep, nonempty, write}
+use Rattle.lists.specs.Lists.{up_from, below, keep, nonempty, write}
+use Rattle.std.specs.Prelude.{if◌then◌else◌}
 use Rattle.lists.proofs.ListLaws.{same_test, not_both, both_true, and_both, keep_mem, mem_keep, keep_same, mem_nonempty, nonempty_mem, up_from_mem, mem_up_from}
 use Rattle.states.specs.declared.States.{States}
 use Rattle.states.specs.Sets.{bit, words, words_at, of_words, word, member, word_of, set_of, members, same_states, least_of}
@@ -200,7 +201,6 @@ pointwise_not a h = pointwise (λ x y. 2 ^ 64 - 1 - x) (λ x y. not x) (λ x y k
 
 -- The bits of a word that is 2^j if a test passes, and else 0.
 bit_one : (b : Bool) (j k : ℕ) → bit (if b then 2 ^ j else 0) k ≡ (b && eqb k j)
-unfolding if◌then◌else◌
 bit_one true j k = bit_pow j k
 bit_one false j k = bit_none k
 

@@ -1,6 +1,7 @@
 -- Sets of states as four words of 64 bits. State s has bit s mod 64 of word s div 64. A state is a byte (document 01).
 use Rattle.std.specs.Prelude.{ℕ, zero, suc, ◌+◌, ◌*◌, ◌/◌, ◌%◌, ◌^◌, List, [], ◌∷◌, Bool, ◌&&◌, eqb, get_or}
-use Rattle.lists.specs.Lists.{if◌then◌else◌, up_from, below, keep}
+use Rattle.lists.specs.Lists.{up_from, below, keep}
+use Rattle.std.specs.Prelude.{if◌then◌else◌}
 use Rattle.states.specs.declared.States.{States}
 
 -- Bit k of a word.
@@ -30,7 +31,6 @@ member set s = bit (word set (s / 64)) (s % 64)
 
 -- The word of so many bits in which bit k is set where k passes a test.
 unfoldable pub word_of : (width : ℕ) (test : ℕ → Bool) → ℕ
-unfolding if◌then◌else◌
 word_of zero test = 0
 word_of (suc width) test = (if test 0 then 1 else 0) + word_of width (λ k. test (suc k)) * 2
 

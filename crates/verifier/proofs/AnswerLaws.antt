@@ -2,7 +2,7 @@
 use Rattle.std.proofs.Common.{◌≡◌, ℕ, ◌+◌, ◌*◌, ◌/◌, ◌%◌, ◌<◌, ◌≤◌, Bool, true, false, ltb, List, [], ◌∷◌, ◌++◌, map, length, get_or, take, drop, sym, refl, ap, ◌∙◌, subst, append_assoc, arith, length-append, take-append-drop}
 use mathlib.Core.List.{Memᴰ}
 use lib.ListN.{length-map}
-use Rattle.lists.specs.Lists.{if◌then◌else◌}
+use Rattle.std.specs.Prelude.{if◌then◌else◌}
 use Rattle.lists.proofs.ListLaws.{append_past}
 use Rattle.states.specs.declared.States.{States}
 use Rattle.format.specs.Syntax.{Sheet}
@@ -171,7 +171,7 @@ module _ (bytes : List ℕ) (sheet : Sheet) (read : reading bytes ≡ gives shee
   stopped_decides = (refl, λ old. refl)
 
   pub decides : Decides found (outcome sheet budget)
-  unfolding outcome if◌then◌else◌
+  unfolding outcome
   decides = subst (λ (x : Found). Decides x (outcome sheet budget)) (sym (search_found sheet budget heads nodes sets bytes read tabled)) (go (ltb budget (history_count sheet)))
     where
       go : (b : Bool) → Decides (if b then over else conclusion (history_count sheet) (failures sheet)) (if b then record { verdict = stopped budget; shown = [] } else concluded sheet (history_count sheet) (failures sheet))

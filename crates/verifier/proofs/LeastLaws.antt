@@ -2,7 +2,8 @@
 use Rattle.std.proofs.Common.{◌≡◌, ℕ, ◌<◌, ◌≤◌, Bool, true, false, ◌&&◌, ◌||◌, ltb, List, [], ◌∷◌, ◌++◌, map, length, sym, refl, ap, ◌∙◌, arith, ltb-false, ltb-true}
 use mathlib.Core.List.{flat_map, head_d, Memᴰ}
 use lib.ListN.{get_or-eq_default}
-use Rattle.lists.specs.Lists.{if◌then◌else◌, below, exists, keep, nonempty}
+use Rattle.lists.specs.Lists.{below, exists, keep, nonempty}
+use Rattle.std.specs.Prelude.{if◌then◌else◌}
 use Rattle.lists.proofs.ListLaws.{same_test, not_both, both_true, and_both, exists_mem, mem_exists, exists_keep, keep_same, keep_mem, keep_within, up_from_mem, mem_up_from, head_append, none_append, some_flat, some_map, head_map, keep_keep}
 use Rattle.states.specs.declared.States.{States}
 use Rattle.states.specs.Sets.{member, set_of, members, least_of}
@@ -21,7 +22,7 @@ use Rattle.verifier.specs.Least.{after, preimage, feasible, least_on, least_stat
 -- The first element of lists laid end to end is that of the first that has one.
 head_flat : {B : Type 0} (f : ℕ → List B) (d : B) (xs : List ℕ) → exists (λ x. nonempty (f x)) xs ≡ true
     → head_d (flat_map f xs) d ≡ head_d (f (least_of (keep (λ x. nonempty (f x)) xs))) d
-unfolding flat_map exists keep least_of if◌then◌else◌
+unfolding flat_map exists keep least_of
 head_flat f d [] e = not_both e refl
 head_flat f d (x ∷ xs) e = go (nonempty (f x)) refl e (λ k. head_flat f d xs k)
   where
@@ -33,7 +34,7 @@ head_flat f d (x ∷ xs) e = go (nonempty (f x)) refl e (λ k. head_flat f d xs 
 
 -- The first that passes a test passes it, if one does.
 first_passes : (test : ℕ → Bool) (xs : List ℕ) → exists test xs ≡ true → Memᴰ (least_of (keep test xs)) (keep test xs)
-unfolding exists keep least_of if◌then◌else◌
+unfolding exists keep least_of
 first_passes test [] e = not_both e refl
 first_passes test (x ∷ xs) e = go (test x) e (λ k. first_passes test xs k)
   where

@@ -4,7 +4,8 @@ use Rattle.std.proofs.Common.{◌≡◌, ℕ, zero, suc, ◌+◌, ◌-◌, ◌*�
 use native.Mathlib.Decide.{ℕ_discrete}
 use lib.ListN.{length-replicate, get_or-replicate}
 use borrow.Author.Tests.{eqb-false}
-use Rattle.lists.specs.Lists.{if◌then◌else◌, below, nonempty, write}
+use Rattle.lists.specs.Lists.{below, nonempty, write}
+use Rattle.std.specs.Prelude.{if◌then◌else◌}
 use Rattle.lists.proofs.ListLaws.{both_true}
 use Rattle.states.specs.declared.States.{States}
 use Rattle.states.specs.Sets.{words, members, words_at}
@@ -23,15 +24,15 @@ use Rattle.verifier.proofs.PathLaws.{visit_by, replies_from, replies_all, search
 
 module _ (budget : ℕ) where
   reaching_in : (n : ℕ) → n ≤ budget → reaching budget n ≡ passed n
-  unfolding reaching if◌then◌else◌
+  unfolding reaching
   reaching_in n l = rw (le-ltb budget n l)
 
   reaching_over : (n : ℕ) → budget < n → reaching budget n ≡ over
-  unfolding reaching if◌then◌else◌
+  unfolding reaching
   reaching_over n l = rw (lt-ltb budget n l)
 
   reaching_behind : (e : Entry) (n : ℕ) → behind e (reaching budget n) ≡ reaching budget n
-  unfolding reaching behind if◌then◌else◌
+  unfolding reaching behind
   reaching_behind e n = go (ltb budget n)
     where
       go : (b : Bool) → behind e (if b then over else passed n) ≡ (if b then over else passed n)
@@ -81,7 +82,7 @@ module _ (budget : ℕ) where
 
   -- One entry more, counted where the budget isn't reached.
   counted_carries : (e : Entry) (f g : ℕ → Found) → Carries f g → Carries (λ c. if eqb c budget then over else behind e (f (c + 1))) (λ c. if eqb c budget then over else behind e (g (c + 1)))
-  unfolding if◌then◌else◌ behind
+  unfolding behind
   counted_carries e f g p c n h = first (eqb c budget) h
     where
       onward : (v d : ℕ) → d ≤ budget → ((k : ℕ) → k ≤ budget → g k ≡ reaching budget (k + v)) → (b : Bool) → eqb d budget ≡ b → (if b then over else behind e (g (d + 1))) ≡ reaching budget (d + suc v)
@@ -113,7 +114,6 @@ module _ (budget : ℕ) where
     Answered onward = answered heads nodes sets budget onward
 
     visit_carries : (f g : States → ℕ → Found) → ((s : States) → Carries (f s) (g s)) → (set : States) (action r : ℕ) → Carries (Visits f set action r) (Visits g set action r)
-    unfolding if◌then◌else◌
     visit_carries f g p set action r = go (nonempty (members (stepped heads sets set action r))) refl
       where
         go : (b : Bool) → nonempty (members (stepped heads sets set action r)) ≡ b → Carries (Visits f set action r) (Visits g set action r)
@@ -232,11 +232,11 @@ module _ (memory : List ℕ) (j : ℕ) (k : Slot) where
 -- What is recalled.
 module _ (k : Slot) (set : States) (onward action depth : ℕ) where
   pub recalled_passed : serves k set onward action depth ≡ true → Recalled.Passed k.behind ≡ recalled k set onward action depth
-  unfolding recalled if◌then◌else◌
+  unfolding recalled
   recalled_passed e = rw e
 
   pub recalled_nothing : serves k set onward action depth ≡ false → Recalled.Nothing ≡ recalled k set onward action depth
-  unfolding recalled if◌then◌else◌
+  unfolding recalled
   recalled_nothing e = rw e
 
   -- A slot that serves is the place's own, but for its depth.
@@ -269,7 +269,7 @@ module _ (k : Slot) (set : States) (onward action depth : ℕ) where
       }
 
   recalled_told : (v : ℕ) → recalled k set onward action depth ≡ Recalled.Passed v → Told v
-  unfolding recalled if◌then◌else◌
+  unfolding recalled
   recalled_told v = go (serves k set onward action depth) refl
     where
       go : (b : Bool) → serves k set onward action depth ≡ b → (if b then Recalled.Passed k.behind else Recalled.Nothing) ≡ Recalled.Passed v → Told v

@@ -2,7 +2,8 @@
 use Rattle.std.proofs.Common.{◌≡◌, ℕ, zero, suc, ◌+◌, ◌-◌, ◌<◌, ◌≤◌, Bool, true, false, not, eqb, List, [], ◌∷◌, ◌++◌, map, length, take, set, sym, refl, ap, ◌∙◌, subst, append-nil, add-one, arith, length-set, length-take-le, take-take, take-suc-set, take_at, eq-eqb, ne_eqb}
 use lib.Seq.{append_snoc}
 use borrow.Author.Tests.{eqb-false}
-use Rattle.lists.specs.Lists.{if◌then◌else◌, up_from, below, nonempty}
+use Rattle.lists.specs.Lists.{up_from, below, nonempty}
+use Rattle.std.specs.Prelude.{if◌then◌else◌}
 use Rattle.states.specs.declared.States.{States}
 use Rattle.states.specs.Sets.{members}
 use Rattle.semantics.specs.Runs.{Entry, entry, History}
@@ -89,16 +90,15 @@ module _ (heads nodes sets : List ℕ) (budget : ℕ) where
           ∙ ap (by s) k
 
       pub reply_skip : not none ≡ false → replies_from onward set action m r c ≡ replies_from onward set action m (r + 1) c
-      unfolding and_then if◌then◌else◌
+      unfolding and_then
       reply_skip e = reply_one h ∙ ap (λ (x : Found). and_then x (replies_from onward set action m (r + 1))) (visited false (eqb c budget) e refl)
 
       pub reply_over : not none ≡ true → c ≡ budget → replies_from onward set action m r c ≡ over
-      unfolding and_then if◌then◌else◌
+      unfolding and_then
       reply_over e k = reply_one h ∙ ap (λ (x : Found). and_then x (replies_from onward set action m (r + 1))) (visited true true e (eq-eqb c budget k))
 
       pub reply_deeper : not none ≡ true → (c ≡ budget → ⊥)
           → replies_from onward set action m r c ≡ and_then (behind (entry action r) (onward next (c + 1))) (replies_from onward set action m (r + 1))
-      unfolding if◌then◌else◌
       reply_deeper e k = reply_one h ∙ ap (λ (x : Found). and_then x (replies_from onward set action m (r + 1))) (visited true false e (ne_eqb c budget k))
 
   -- The search from a node on, by where the program settles.
@@ -135,7 +135,7 @@ module _ (heads nodes sets : List ℕ) (budget : ℕ) where
 
   visit_within : (onward : States → ℕ → Found) → ((s : States) (n : ℕ) → n ≤ budget → Within budget (onward s n))
       → (set : States) (action r c : ℕ) → c ≤ budget → Within budget (visit heads nodes sets budget onward set action r c)
-  unfolding visit Within if◌then◌else◌
+  unfolding visit Within
   visit_within onward h set action r c k =
       go (nonempty (members next)) (eqb c budget) refl (λ l. behind_within budget (entry action r) (onward next (c + 1)) (h next (c + 1) l))
     where

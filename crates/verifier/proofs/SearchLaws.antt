@@ -2,7 +2,8 @@
 use Rattle.std.proofs.Common.{◌≡◌, ℕ, zero, suc, ◌+◌, ◌≤◌, Bool, true, false, not, ◌&&◌, eqb, ltb, List, [], ◌∷◌, ◌++◌, length, sym, refl, ap, ◌∙◌, subst, ⊎_elim, append_assoc, append-nil, arith, length-append, le-ltb, lt-ltb, eqb-true}
 use mathlib.Core.List.{flat_map, Memᴰ}
 use borrow.Author.Tests.{eqb-false}
-use Rattle.lists.specs.Lists.{if◌then◌else◌, below, keep, up_to, nonempty, Sorted, Before}
+use Rattle.lists.specs.Lists.{below, keep, up_to, nonempty, Sorted, Before}
+use Rattle.std.specs.Prelude.{if◌then◌else◌}
 use Rattle.lists.proofs.OrderLaws.{up_to_mem}
 use Rattle.states.specs.declared.States.{States}
 use Rattle.states.specs.Sets.{members}
@@ -66,17 +67,15 @@ conclusion c (h ∷ later) = failed c h
 module _ (sheet : Sheet) (budget : ℕ) where
   -- Histories counted one after the other, c being counted so far; and where the first is counted already.
   unfoldable scan : List History → (c : ℕ) → Found
-  unfolding if◌then◌else◌
   scan [] c = passed c
   scan (h ∷ later) c = if eqb c budget then over else (if fails sheet h then failed (c + 1) h else scan later (c + 1))
 
   unfoldable enter : List History → (c : ℕ) → Found
-  unfolding if◌then◌else◌
   enter [] c = passed c
   enter (h ∷ later) c = if fails sheet h then failed c h else scan later c
 
   scan_append : (xs ys : List History) (c : ℕ) → scan (xs ++ ys) c ≡ and_then (scan xs c) (scan ys)
-  unfolding scan and_then if◌then◌else◌
+  unfolding scan and_then
   scan_append [] ys c = refl
   scan_append (h ∷ xs) ys c = go (eqb c budget) (fails sheet h) (scan_append xs ys (c + 1))
     where
@@ -89,7 +88,7 @@ module _ (sheet : Sheet) (budget : ℕ) where
   -- The count up to the first that fails, or of all.
   scan_is : (hs : List History) (c : ℕ) → c ≤ budget
       → scan hs c ≡ (if ltb budget (c + length (up_to (fails sheet) hs)) then over else conclusion (c + length (up_to (fails sheet) hs)) (keep (fails sheet) hs))
-  unfolding scan conclusion up_to keep if◌then◌else◌
+  unfolding scan conclusion up_to keep
   scan_is [] c l = let e : c + 0 ≡ c = omega arith in rw (e, le-ltb budget c l)
   scan_is (h ∷ hs) c l = go (eqb c budget) refl (fails sheet h) (λ m. scan_is hs (c + 1) m)
     where
@@ -112,7 +111,7 @@ module _ (sheet : Sheet) (budget : ℕ) where
 
   -- All histories of a sheet, the empty one not counted.
   kept_all : (hs : List History) → ((g : History) → Memᴰ g hs → nonempty g ≡ true) → keep nonempty hs ≡ hs
-  unfolding keep if◌then◌else◌
+  unfolding keep
   kept_all [] k = refl
   kept_all (h ∷ hs) k = rw (k h (Memᴰ.head refl), kept_all hs (λ g m. k g (Memᴰ.tail m)))
 
@@ -130,7 +129,7 @@ module _ (sheet : Sheet) (budget : ℕ) where
       → enter ([] ∷ later) 0
       ≡ (if ltb budget (length (keep nonempty (up_to (fails sheet) ([] ∷ later)))) then over
       else conclusion (length (keep nonempty (up_to (fails sheet) ([] ∷ later)))) (keep (fails sheet) ([] ∷ later)))
-  unfolding enter up_to keep nonempty conclusion if◌then◌else◌
+  unfolding enter up_to keep nonempty conclusion
   enter_of later some =
       go (fails sheet []) (scan_is later 0 (omega arith)) (kept_all (up_to (fails sheet) later) (λ g m. some g (up_to_mem (fails sheet) later m)))
     where
@@ -175,7 +174,7 @@ module _ (sheet : Sheet) (budget : ℕ) where
       -- At the end.
       ends : AtEnd sheet heads nodes sets h at set → (left c : ℕ)
           → past h (searched heads nodes sets budget left at set c) ≡ enter (histories_from sheet (left_after (routine sheet) (replies h)) h) c
-      unfolding histories_from enter scan past is_done if◌then◌else◌
+      unfolding histories_from enter scan past is_done
       ends x left c =
           let f = fails_left h (left_after (routine sheet) (replies h)) (full_left (routine sheet) h reached.follows)
           ∙ ap (λ (p : Policy). is_done p && not (holds_after sheet h sheet.goal)) x.nothing in
@@ -204,7 +203,6 @@ module _ (sheet : Sheet) (budget : ℕ) where
         next_some r = sym (reached_occurs sheet heads nodes sets bytes read tabled (extended h a r) (x.place + 1) (stepped heads sets set a r) (x.onward r))
 
         one_reply : (r c : ℕ) → occurring r ≡ true → past h (visits r c) ≡ scan (behind_reply r) c
-        unfolding if◌then◌else◌
         one_reply r c o =
             let next = stepped heads sets set a r in
             let found = searched heads nodes sets budget left (x.place + 1) next (c + 1) in
@@ -219,11 +217,10 @@ module _ (sheet : Sheet) (budget : ℕ) where
             go false y z e = e
 
         no_reply : (r c : ℕ) → occurring r ≡ false → visits r c ≡ passed c
-        unfolding if◌then◌else◌
         no_reply r c o = visit_by heads nodes sets budget (searched heads nodes sets budget left (x.place + 1)) set a r c false (next_some r ∙ o)
 
         all_replies : (rs : List ℕ) (c : ℕ) → past h (each_reply visits rs c) ≡ scan (flat_map behind_reply (keep occurring rs)) c
-        unfolding each_reply past flat_map keep scan if◌then◌else◌
+        unfolding each_reply past flat_map keep scan
         all_replies [] c = refl
         all_replies (r ∷ rs) c = go (occurring r) refl (λ d. all_replies rs d)
           where
@@ -243,7 +240,7 @@ module _ (sheet : Sheet) (budget : ℕ) where
 
         enter_action : (c : ℕ)
             → enter (histories_from sheet (left_after (routine sheet) (replies h)) h) c ≡ scan (flat_map behind_reply (keep occurring (below (reply_count (action_of sheet a))))) c
-        unfolding histories_from enter if◌then◌else◌
+        unfolding histories_from enter
         enter_action c =
             ap (λ (p : Policy). enter (histories_from sheet p h) c) x.next
             ∙ ap (λ (b : Bool). if b then failed c h else scan (flat_map behind_reply (keep occurring (below (reply_count (action_of sheet a))))) c) action_fails

@@ -3,7 +3,7 @@
 use Rattle.std.specs.Prelude.{◌≡◌, ℕ, ◌+◌, ◌*◌, ◌<◌, ◌≤◌, Bool, ◌&&◌, List, [], ◌∷◌, length, ◌==◌, nat_le, nat_lt, slice_index, refl}
 use Rattle.states.specs.Sets.{words, words_at}
 use Rattle.format.specs.Format.{most_acts}
-use Rattle.lists.specs.Lists.{if◌then◌else◌}
+use Rattle.std.specs.Prelude.{if◌then◌else◌}
 use Rattle.states.specs.declared.States.{States}
 use Rattle.format.specs.Syntax.{fact, negation, Epistemic, known, any_of}
 use Rattle.routine.specs.Tables.{sheet_heads, node_cells, set_words, low}
@@ -37,12 +37,11 @@ serves k set onward action depth =
 
 -- What a slot tells of a place.
 unfoldable pub recalled : Slot → States → (onward action depth : ℕ) → Recalled
-unfolding if◌then◌else◌ serves
+unfolding serves
 recalled k set onward action depth = if serves k set onward action depth then Recalled.Passed k.behind else Recalled.Nothing
 
 -- So many histories counted, none of which fails; or the budget exceeded.
 unfoldable pub reaching : (budget n : ℕ) → Found
-unfolding if◌then◌else◌
 reaching budget n = if nat_lt budget n then over else passed n
 
 module _ (heads nodes sets : List ℕ) (budget : ℕ) where

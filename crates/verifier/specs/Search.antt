@@ -2,7 +2,8 @@
 -- proofs/SearchLaws.antt shows its agreement with the histories of runs that follow the routine.
 use Rattle.std.specs.Prelude.{◌≡◌, ℕ, zero, suc, ◌+◌, ◌*◌, ◌%◌, true, false, List, [], ◌∷◌, ◌++◌, map, length, take, nat_eq, refl}
 use Rattle.format.specs.Format.{most_acts}
-use Rattle.lists.specs.Lists.{if◌then◌else◌, up_from, below, nonempty}
+use Rattle.lists.specs.Lists.{up_from, below, nonempty}
+use Rattle.std.specs.Prelude.{if◌then◌else◌}
 use Rattle.states.specs.declared.States.{States}
 use Rattle.states.specs.Sets.{members}
 use Rattle.format.specs.Syntax.{top, fact, negation, Epistemic, known, any_of, end, act, probe, Sheet}
@@ -47,7 +48,7 @@ at_place (Place.Act node action) acts c = acts node action
 module _ (heads nodes sets : List ℕ) (budget : ℕ) where
   -- A reply after which some state is possible is counted, "a history standing before its extensions", and searched; where the count is the budget already, it exceeds it.
   unfoldable pub visit : (onward : States → (c : ℕ) → Found) → States → (action r c : ℕ) → Found
-  unfolding if◌then◌else◌ nonempty members stepped behind
+  unfolding nonempty members stepped behind
   visit onward set action r c =
       if nonempty (members (stepped heads sets set action r)) then
       (if nat_eq c budget then over else behind (entry action r) (onward (stepped heads sets set action r) (c + 1)))

@@ -5,7 +5,7 @@ use mathlib.Core.Path.{sym, ap, subst, ◌∙◌}
 use mathlib.Core.Bool.{true, false}
 use mathlib.Core.Logic.{inl, inr}
 use native.Mathlib.Omega.{arith}
-use Rattle.lists.specs.Lists.{if◌then◌else◌}
+use Rattle.std.specs.Prelude.{if◌then◌else◌}
 use Rattle.states.specs.declared.States.{States}
 use Rattle.states.specs.Sets.{of_words}
 use Rattle.states.proofs.SetLaws.{words_back}
@@ -65,7 +65,6 @@ overflow_add-i-then-holds-2 c =
     omega (arith, small)
 
 pub loop-i-preserved-then-holds : goal.loop-i-preserved-then-holds
-unfolding if◌then◌else◌
 loop-i-preserved-then-holds c =
     let asked : AskedFor c.node_at-node.result c.match-node-2.node c.loop-i.i c.match-node-2.asked =
     elim c.match-node-2.branch [
@@ -89,7 +88,6 @@ overflow_add-i-else-holds-2 c =
     omega (arith, small)
 
 pub loop-i-preserved : goal.loop-i-preserved
-unfolding if◌then◌else◌
 loop-i-preserved c =
     let asked : AskedFor c.node_at-node.result c.match-node-2.node c.loop-i.i c.match-node-2.asked =
     elim c.match-node-2.branch [
