@@ -22,7 +22,7 @@ impl Program {
         let path = root().join("target/bin").join(self.0);
         assert!(
             path.exists(),
-            "{} isn't there: run `rt check {}` first",
+            "{} isn't there: run `tools/build {}` first",
             path.display(),
             self.0
         );
