@@ -1,7 +1,7 @@
 /*
  * The proved recovery library for C: the reader of sheets, the verifier, the trace checker, the figures of a stream of
  * sheets, and the runner. C99, and C++11. "Document 01" is the requirement; crates/recovery/src/lib.rt has the
- * functions with their contracts. A sheet is of edition 1 or 2. In edition 2 it says a constraint, and only what
+ * functions with their contracts, which crates/recovery_c/src/lib.rt exports. A sheet is of edition 1 or 2. In edition 2 it says a constraint, and only what
  * satisfies that is a state (docs/FORMAT.md).
  *
  * Any numbers may stand in the memory that a call is lent, be it a sheet, a trace, a record, the state of a stream or
@@ -14,7 +14,8 @@
  *  - Memory that a call is lent was written before, be it with zeros: of fresh memory, in which no numbers stand yet,
  *    nothing is proved.
  *  - The stack suffices. For every sheet tried 419 kB (of 1,000 bytes) were enough for verify and print, 407 for check,
- *    next and report, and 54 for the others, among them the forms in lent tables, `_in` (docs/PERFORMANCE.md, "Stack").
+ *    next and report, and 54 for the others, among them the forms in lent tables, `_in` (docs/PERFORMANCE.md, "Stack";
+ *    measured with an older kit).
  *
  * A call writes only what its comment names. The library keeps nothing between calls and uses of the C library memcpy
  * and memset alone. Calls may run at the same time where none writes memory that another uses.

@@ -1,4 +1,4 @@
--- The theorem: the demands hold of the library that C links, in every model of the machine and in the one that the toolchain builds. Assumes nothing.
+-- The theorem: the demands hold of the library's functions, in every model of the machine in which functions run and in the one that the toolchain builds. Assumes nothing.
 use mathlib.Core.List.{[]}
 use mathlib.Core.Path.{refl}
 use seplogic.Ra.Ura.{Ura}

@@ -1,4 +1,4 @@
--- What C links, as a library: the compiled function of each, its arguments, and what its number and the lent memory mean to the caller.
+-- What C links, as a library: the routine of each function (`Functions`; Program gives those of a program), its arguments, and what its number and the lent memory mean to the caller.
 use Rattle.std.specs.Prelude.{ℕ, ◌≡◌, List, [], ◌∷◌, length, take}
 use seplogic.Ra.Ura.{Ura}
 use Rattle.std.specs.Int.{w8, w64}

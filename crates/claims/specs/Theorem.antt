@@ -1,5 +1,5 @@
--- The theorem's type: the demands, and what document 02 adds to them, hold of the library that C links, in every model of the machine, and
--- so in the one that the toolchain builds.
+-- The theorem's type: the demands, and what document 02 adds to them, hold of the library's functions, in every model of the machine in which functions run, and
+-- so in the one that the toolchain builds. (recovery_c/proofs/Theorem says the same of the exports that C links, which call these functions.)
 use seplogic.Ra.Ura.{Ura}
 use prog.Model.{Model}
 use types.Logic.{Logic}

@@ -1,8 +1,7 @@
 -- The packed format: what a list of bytes says, or the number of its refusal. Document 01, "The sheet" and "From the sheet".
-use Rattle.std.specs.Prelude.{ℕ, zero, suc, ◌+◌, ◌-◌, ◌*◌, ◌≤◌, ◌≡◌, Bool, true, false, ◌&&◌, ◌||◌, length, leb, ltb, eqb}
+use Rattle.std.specs.Prelude.{if◌then◌else◌, ℕ, zero, suc, ◌+◌, ◌-◌, ◌*◌, ◌≤◌, ◌≡◌, Bool, true, false, ◌&&◌, ◌||◌, length, leb, ltb, eqb}
 use mathlib.Core.List.{List, [], ◌∷◌, ◌++◌, flat_map}
 use Rattle.lists.specs.Lists.{up_from, below, every, exists, nonempty}
-use Rattle.std.specs.Prelude.{if◌then◌else◌}
 use Rattle.format.specs.Syntax.{Objective, bottom, top, fact, new_fact, negation, conjunction, disjunction, equivalence, Epistemic, known, not_known, all_of, any_of, Program, end, act, branch, Action, change, probe, reply_count, Sheet}
 use Rattle.format.specs.Truth.{states, holds, moves, reply_holds}
 use Rattle.format.specs.Bits.{bits_at}

@@ -1,4 +1,4 @@
--- Choices, lists of numbers, tests over lists, order, and what is written into a list. Nothing here is of document 01; its definitions are written with these.
+-- Lists of numbers, tests over lists, order, and what is written into a list. Nothing here is of document 01; its definitions are written with these.
 use Rattle.std.specs.Prelude.{if◌then◌else◌, ℕ, zero, suc, ◌+◌, ◌<◌, ◌≡◌, ◌⊎◌, Bool, true, false, ◌&&◌, ◌||◌, set}
 use mathlib.Core.List.{List, [], ◌∷◌, Memᴰ}
 

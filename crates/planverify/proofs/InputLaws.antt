@@ -7,9 +7,8 @@ use native.Mathlib.Omega.{arith}
 use lib.Dec.{ltb}
 use lib.ListN.{length, take}
 use borrow.Author.Tests.{lt-ltb, le-ltb}
-use Rattle.std.specs.Prelude.{Result, Ok, Err, IfOk}
+use Rattle.std.specs.Prelude.{if◌then◌else◌, Result, Ok, Err, IfOk}
 use Rattle.lists.specs.Lists.{write}
-use Rattle.std.specs.Prelude.{if◌then◌else◌}
 use Rattle.semantics.specs.Printing.{printed}
 use Rattle.planverify.specs.declared.Input.{Input}
 use Rattle.planverify.specs.declared.Next.{Next}

@@ -1,6 +1,5 @@
 -- What the calls of `read` say of the input, and what is printed for it.
-use Rattle.std.specs.Prelude.{ℕ, zero, suc, ◌+◌, ◌≤◌, List, [], take, ltb, Result, Ok, Err}
-use Rattle.std.specs.Prelude.{if◌then◌else◌}
+use Rattle.std.specs.Prelude.{if◌then◌else◌, ℕ, zero, suc, ◌+◌, ◌≤◌, List, [], take, ltb, Result, Ok, Err}
 use Rattle.semantics.specs.Printing.{printed}
 use Rattle.planverify.specs.declared.Next.{Next}
 use Rattle.planverify.specs.declared.Input.{Input}

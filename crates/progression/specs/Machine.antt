@@ -1,8 +1,7 @@
 -- The tables as a machine, whatever numbers are in the memory: where the program settles, one step of the set of possible states, and one pass over it when a reply comes in.
-use Rattle.std.specs.Prelude.{ℕ, zero, suc, ◌+◌, ◌-◌, ◌<◌, min, ◌≡◌, refl, List, [], ◌∷◌, Bool, true, false, not, ◌&&◌, ◌||◌, ltb, length}
+use Rattle.std.specs.Prelude.{if◌then◌else◌, ℕ, zero, suc, ◌+◌, ◌-◌, ◌<◌, min, ◌≡◌, refl, List, [], ◌∷◌, Bool, true, false, not, ◌&&◌, ◌||◌, ltb, length}
 use Rattle.std.specs.Bool.{beq}
 use Rattle.lists.specs.Lists.{up_from, below, every, exists}
-use Rattle.std.specs.Prelude.{if◌then◌else◌}
 use Rattle.states.specs.declared.States.{States}
 use Rattle.states.specs.Sets.{member, set_of, members}
 use Rattle.format.specs.Syntax.{top, fact, negation, Epistemic, known, not_known, all_of, any_of, end, act, branch, change, probe, Sheet}

@@ -1,5 +1,5 @@
--- What a call of each function that C links leaves, for every model: from any memory in which it can be made it ends, with the number, and with the numbers in every piece of
--- lent memory, that its contract says. A contract made weaker, or one that asks for something, is refused here. Assumes nothing.
+-- What a call of each function leaves, for every model in which functions run and in every program that has the function's code: from any memory in which it can be made it ends, with the number, and with the numbers in every piece of
+-- lent memory, that its contract says. A contract made weaker, or one that asks for something, is refused in Leaving. Assumes nothing.
 use Prim.Native.Nat.{ℕ, ◌≤◌}
 use mathlib.Core.List.{List, [], ◌∷◌}
 use lib.ListN.{length}

@@ -67,7 +67,7 @@ use Rattle.recovery.specs.contracts.recovery_next_in as next-in
 use Rattle.recovery.proofs.recovery_next_in.Reads as next-in-reads
 use Rattle.recovery.specs.contracts.recovery_report as report
 use Rattle.recovery.proofs.recovery_report.Reads as report-reads
-use Rattle.recovery.specs.contracts.recovery_report_in as report_in_law
+use Rattle.recovery.specs.contracts.recovery_report_in as report-in
 use Rattle.recovery.proofs.recovery_report_in.Reads as report-in-reads
 use Rattle.recovery.specs.contracts.recovery_figures_feed as feed
 use Rattle.recovery.proofs.recovery_figures_feed.Reads as feed-reads
@@ -295,13 +295,13 @@ module _ {M : Type 1} {𝓤 : Ura M} (𝓛 : Logic 𝓤) (𝓜 : Model 𝓤 𝓛
       let f = q.7 in
       so 𝓛 𝓜 function args σ F q.1 _ _ _ q.2 (head_is q.6.0 ∙ ap (vint w8) f.0) (λ i. record_pieces reads writes (p 0) (p 1) (p 2) (kept_sheet r fit.0 reply i) (f.1 i) (f.2 i) ++ (number w8 reply ∷ [])) (q.5, q.8.0, q.8.1, q.8.2))
 
-  pub report_in_leaves : (function : Routine) → Meets 𝓛 report_in_law.signature (𝓡.returns function) (report_in_law.spec 𝓛 𝓜.mem 𝓡.returns) → (r : Record) (reply : ℕ) (t : Tables)
+  pub report_in_leaves : (function : Routine) → Meets 𝓛 report-in.signature (𝓡.returns function) (report-in.spec 𝓛 𝓜.mem 𝓡.returns) → (r : Record) (reply : ℕ) (t : Tables)
       → Leaves 𝓛 𝓜 function (to_report_in p r reply t) (vint w8 (number_for (report_on r reply))) (to_report_in p (record_after r reply) reply (tables_after (sheet_in r) t))
   unfolding values_of value_of AllFit Fits lent_record lengths_of
   report_in_leaves function met r reply t fit σ F s =
       let args = to_report_in p r reply t in
       ∥∥₁_map
-      (said 𝓛 𝓜 𝓡 report_in_law.signature function (report_in_law.spec 𝓛 𝓜.mem 𝓡.returns) met (report_in_law.ended).kept args (bound args) (λ ns. tt)
+      (said 𝓛 𝓜 𝓡 report-in.signature function (report-in.spec 𝓛 𝓜.mem 𝓡.returns) met (report-in.ended).kept args (bound args) (λ ns. tt)
       (λ ns. report-in-reads.Learnt (bound args ns).0 (bound args ns).3) (λ ns t. id⊢ 𝓤 _) (λ ns. refl) (λ ns. id⊢ 𝓤 _) (λ ns ws. ws) (λ ns ws. id⊢ 𝓤 _) fit σ F s)
       (λ q.
       let f = q.7 in

@@ -1,4 +1,4 @@
-// What C and Rust programs link: the library's functions under C's calling convention. A slice is a pointer and a length,
+// The functions of the library that C and Rust programs link, under C's calling convention. A slice is a pointer and a length,
 // an array of fixed length is a pointer to its first element. (The crate `recovery_c` exports them.)
 #![tactic(auto)]
 

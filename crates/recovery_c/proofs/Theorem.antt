@@ -1,5 +1,5 @@
--- The theorem of claims, of the functions that C calls, the exports of the static library: the demands hold of them in every model of the machine, in every program that
--- has their code, and so in the one that the crates make and in the model that the toolchain builds. Assumes nothing.
+-- The theorem of claims, of the functions that C calls, the exports of the static library: the demands hold of them in every model of the machine in which functions run, in every
+-- program that has their code, and so in the one that the crates make and in the model that the toolchain builds. Assumes nothing.
 use seplogic.Ra.Ura.{Ura}
 use prog.Model.{Model}
 use prog.Routine.{Env}

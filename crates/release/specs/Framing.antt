@@ -1,7 +1,6 @@
 -- What is begun of a stream: a length and its sheet, as far as they are there.
-use Rattle.std.specs.Prelude.{ℕ, ◌+◌, ◌*◌, List, map, length, take, nat_lt, slice_index}
+use Rattle.std.specs.Prelude.{if◌then◌else◌, ℕ, ◌+◌, ◌*◌, List, map, length, take, nat_lt, slice_index}
 use Rattle.lists.specs.Lists.{below}
-use Rattle.std.specs.Prelude.{if◌then◌else◌}
 use Rattle.format.specs.Format.{most_bytes}
 use Rattle.release.specs.declared.framing.Begun.{Begun}
 

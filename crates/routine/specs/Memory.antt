@@ -1,6 +1,5 @@
 -- What stands in the memory of a routine's tables, whatever numbers are in it: sets of states, nodes of the program and of its formulas, heads of actions.
-use Rattle.std.specs.Prelude.{ℕ, ◌+◌, ◌*◌, ◌<◌, ◌≡◌, List, [], ◌∷◌, Bool, true, false, ltb, eqb, length, get_or}
-use Rattle.std.specs.Prelude.{if◌then◌else◌}
+use Rattle.std.specs.Prelude.{if◌then◌else◌, ℕ, ◌+◌, ◌*◌, ◌<◌, ◌≡◌, List, [], ◌∷◌, Bool, true, false, ltb, eqb, length, get_or}
 use Rattle.states.specs.declared.States.{States}
 use Rattle.states.specs.Sets.{words_at, set_of}
 use Rattle.routine.specs.declared.memory.Node.{Node}

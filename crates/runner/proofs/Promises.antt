@@ -28,7 +28,7 @@ use Rattle.runner.specs.contracts.calls.Record.next_in as next-in
 use Rattle.runner.proofs.calls.Record.next_in.Reads as next-in-reads
 use Rattle.runner.specs.contracts.calls.Record.report as report
 use Rattle.runner.proofs.calls.Record.report.Reads as report-reads
-use Rattle.runner.specs.contracts.calls.Record.report_in as report_in_law
+use Rattle.runner.specs.contracts.calls.Record.report_in as report-in
 use Rattle.runner.proofs.calls.Record.report_in.Reads as report-in-reads
 
 -- `Record::load` of a lent sheet; `next` and `report` on a record.
@@ -52,8 +52,8 @@ NextInMay r t =
 
 abbrev pub ReportInMay : Record → (reply : ℕ) → AfterReport → Type 0
 ReportInMay r x t =
-    (κs : Lfts 3) × (a : Args report_in_law.signature κs) × (ws : Lasts report_in_law.ended κs a) × (a.0 ≡ r) × (a.1.0 ≡ x) × Sized a.1.1.0.now a.1.1.1.0.now a.1.1.1.1.0.now
-    × report-in-reads.Learnt κs a t (at_exit report_in_law.ended κs a ws)
+    (κs : Lfts 3) × (a : Args report-in.signature κs) × (ws : Lasts report-in.ended κs a) × (a.0 ≡ r) × (a.1.0 ≡ x) × Sized a.1.1.0.now a.1.1.1.0.now a.1.1.1.1.0.now
+    × report-in-reads.Learnt κs a t (at_exit report-in.ended κs a ws)
 
 -- What a call may do.
 abbrev pub CallMay : Form → Call → Record → CallAnswer → Record → Type 0
@@ -132,7 +132,7 @@ module _ (κs : Lfts 3) (a : Args next-in.signature κs) (ws : Lasts next-in.end
       (at_exit next-in.ended κs a ws).1.0.now (at_exit next-in.ended κs a ws).1.1.0.now (at_exit next-in.ended κs a ws).1.1.1.0.now
   next_lent = learnt.2
 
-module _ (κs : Lfts 3) (a : Args report_in_law.signature κs) (ws : Lasts report_in_law.ended κs a) (t : AfterReport) (learnt : report-in-reads.Learnt κs a t (at_exit report_in_law.ended κs a ws)) where
+module _ (κs : Lfts 3) (a : Args report-in.signature κs) (ws : Lasts report-in.ended κs a) (t : AfterReport) (learnt : report-in-reads.Learnt κs a t (at_exit report-in.ended κs a ws)) where
   pub report_lent : TablesAfter (sheet_in a.0) a.1.1.0.now a.1.1.1.0.now a.1.1.1.1.0.now
-      (at_exit report_in_law.ended κs a ws).1.1.0.now (at_exit report_in_law.ended κs a ws).1.1.1.0.now (at_exit report_in_law.ended κs a ws).1.1.1.1.0.now
+      (at_exit report-in.ended κs a ws).1.1.0.now (at_exit report-in.ended κs a ws).1.1.1.0.now (at_exit report-in.ended κs a ws).1.1.1.1.0.now
   report_lent = learnt.1

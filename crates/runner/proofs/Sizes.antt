@@ -1,4 +1,4 @@
--- The lengths of a record's two arrays, from what owning the record tells: `c.good.0` of a function whose first parameter is the record. Assumes nothing.
+-- The lengths of a record's two arrays, from what owning the record tells: `c.well_formed.0` of a function whose first parameter is the record. Assumes nothing.
 use mathlib.Core.List.{List}
 use mathlib.Core.Path.{◌≡◌}
 use lib.ListN.{length}

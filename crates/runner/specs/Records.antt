@@ -1,7 +1,6 @@
 -- The record, and what loading, "Next" and "Report" make of it. Document 01, "The runner" and "From the memory and the record".
-use Rattle.std.specs.Prelude.{ℕ, ◌-◌, List, [], ◌∷◌, ◌++◌, ◌≡◌, refl, Bool, true, false, ◌&&◌, leb, eqb, length, replicate, take, drop}
+use Rattle.std.specs.Prelude.{if◌then◌else◌, ℕ, ◌-◌, List, [], ◌∷◌, ◌++◌, ◌≡◌, refl, Bool, true, false, ◌&&◌, leb, eqb, length, replicate, take, drop}
 use Rattle.lists.specs.Lists.{every}
-use Rattle.std.specs.Prelude.{if◌then◌else◌}
 use Rattle.format.specs.Syntax.{Sheet}
 use Rattle.format.specs.Format.{Answer, gives, refused, on_accepted, given_or, most_bytes, most_acts, reading}
 use Rattle.semantics.specs.Replies.{Told, to_do, at_end, told, reported, are_of_run}

@@ -1,9 +1,8 @@
 -- The method: where replies lead by a routine's tables, whatever numbers are in the memory. An auditor of the promises needs none of it; proofs/WalkLaws.antt shows its agreement.
-use Rattle.std.specs.Prelude.{ℕ, ◌+◌, take}
+use Rattle.std.specs.Prelude.{if◌then◌else◌, ℕ, ◌+◌, take}
 use mathlib.Core.List.{List, [], ◌∷◌}
 use Rattle.std.proofs.Math.Dec.{ltb}
 use Rattle.lists.specs.Lists.{nonempty}
-use Rattle.std.specs.Prelude.{if◌then◌else◌}
 use Rattle.states.specs.declared.States.{States}
 use Rattle.states.specs.Sets.{members}
 use Rattle.format.specs.Format.{Answer, gives, refused, on_accepted, most_bytes, most_acts, reading}

@@ -1,6 +1,5 @@
 -- What the box knows after a list of replies: the states still possible, and the place in the program's text. Document 02, "The record keeps what the box knows". No promise speaks of it yet. An auditor of the promises needs none of it.
-use Rattle.std.specs.Prelude.{ℕ, ◌+◌, ◌≡◌, refl, List, [], ◌∷◌, ◌++◌, map, Bool, true, false}
-use Rattle.std.specs.Prelude.{if◌then◌else◌}
+use Rattle.std.specs.Prelude.{if◌then◌else◌, ℕ, ◌+◌, ◌≡◌, refl, List, [], ◌∷◌, ◌++◌, map, Bool, true, false}
 use Rattle.format.specs.Syntax.{top, fact, negation, known, Program, end, act, branch, action_nodes, change, probe, Sheet}
 use Rattle.semantics.specs.Runs.{History, extended, holds_after, is_possible}
 use Rattle.semantics.specs.Routine.{routine}
@@ -19,7 +18,7 @@ node_actions (act a rest) = a ∷ node_actions rest
 node_actions (branch f p q rest) = node_actions p ++ (node_actions q ++ node_actions rest)
 
 -- "The number of the next action node, counted from 0 in reading order": that at which a program stands after history h and then the replies rs, its own first action node
--- being number c. `onward` tells it where the program ends before that. Branches go as in `policy`. (PositionLaws: `position_next`, `position_end`.)
+-- being number c. `onward` tells it where the program ends before that. Branches go as in `policy`.
 unfoldable pub next_node : Sheet → Program → (c : ℕ) → (onward : History → List ℕ → ℕ) → History → (rs : List ℕ) → ℕ
 unfolding holds_after action_nodes
 next_node sheet end c onward h rs = onward h rs

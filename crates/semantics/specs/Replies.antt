@@ -1,8 +1,7 @@
 -- What the routine tells after a list of replies, and which further reply is accepted. Document 01, "The runner" and "From the memory and the record".
 -- (The record stands with the runner.)
-use Rattle.std.specs.Prelude.{ℕ, ◌≡◌, List, [], ◌∷◌, ◌++◌, Bool, ◌&&◌, ltb, eqb, length}
+use Rattle.std.specs.Prelude.{if◌then◌else◌, ℕ, ◌≡◌, List, [], ◌∷◌, ◌++◌, Bool, ◌&&◌, ltb, eqb, length}
 use Rattle.lists.specs.Lists.{exists, nonempty}
-use Rattle.std.specs.Prelude.{if◌then◌else◌}
 use Rattle.format.specs.Syntax.{reply_count, Sheet, action_of}
 use Rattle.format.specs.Format.{Answer, gives, refused}
 use Rattle.semantics.specs.Runs.{Entry, History, entry, replies, next_states, possible_states, holds_after, occurs}

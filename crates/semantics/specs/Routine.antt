@@ -1,6 +1,5 @@
 -- Following the routine. Document 01, "Runs and what is known".
-use Rattle.std.specs.Prelude.{ℕ, List, [], ◌∷◌, Bool, true, false, ◌&&◌, ◌≡◌, eqb}
-use Rattle.std.specs.Prelude.{if◌then◌else◌}
+use Rattle.std.specs.Prelude.{if◌then◌else◌, ℕ, List, [], ◌∷◌, Bool, true, false, ◌&&◌, ◌≡◌, eqb}
 use Rattle.format.specs.Syntax.{Program, end, act, branch, Sheet}
 use Rattle.semantics.specs.Runs.{History, extended, IsRun, Holds, holds_after}
 

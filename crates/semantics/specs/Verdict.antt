@@ -1,8 +1,7 @@
 -- The verifier's answer and the trace memory. Document 01, "The verifier".
-use Rattle.std.specs.Prelude.{ℕ, ◌+◌, ◌*◌, ◌≤◌, ◌≡◌, ◌⊎◌, Bool, not, ◌&&◌, ltb, length, drop}
+use Rattle.std.specs.Prelude.{if◌then◌else◌, ℕ, ◌+◌, ◌*◌, ◌≤◌, ◌≡◌, ◌⊎◌, Bool, not, ◌&&◌, ltb, length, drop}
 use mathlib.Core.List.{List, [], ◌∷◌, ◌++◌, flat_map, head_d}
 use Rattle.lists.specs.Lists.{up_from, below, keep, up_to, nonempty, Before}
-use Rattle.std.specs.Prelude.{if◌then◌else◌}
 use Rattle.format.specs.Syntax.{reply_count, Sheet, action_of}
 use Rattle.format.specs.Format.{Answer, gives, refused, on_accepted, given_or, most_acts, reading}
 use Rattle.semantics.specs.Runs.{History, extended, replies, runs, holds_after, occurs}

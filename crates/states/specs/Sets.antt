@@ -1,7 +1,6 @@
 -- Sets of states as four words of 64 bits. State s has bit s mod 64 of word s div 64. A state is a byte (document 01).
-use Rattle.std.specs.Prelude.{ℕ, zero, suc, ◌+◌, ◌*◌, ◌/◌, ◌%◌, ◌^◌, List, [], ◌∷◌, Bool, ◌&&◌, eqb, get_or}
+use Rattle.std.specs.Prelude.{if◌then◌else◌, ℕ, zero, suc, ◌+◌, ◌*◌, ◌/◌, ◌%◌, ◌^◌, List, [], ◌∷◌, Bool, ◌&&◌, eqb, get_or}
 use Rattle.lists.specs.Lists.{up_from, below, keep}
-use Rattle.std.specs.Prelude.{if◌then◌else◌}
 use Rattle.states.specs.declared.States.{States}
 
 -- Bit k of a word.

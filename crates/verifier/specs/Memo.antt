@@ -1,9 +1,8 @@
 -- The method: what the search remembers of places from which everything passed. An auditor of the promises needs none of it;
 -- proofs/MemoLaws.antt shows that what is recalled is what the search would find.
-use Rattle.std.specs.Prelude.{◌≡◌, ℕ, ◌+◌, ◌*◌, ◌<◌, ◌≤◌, Bool, ◌&&◌, List, [], ◌∷◌, length, ◌==◌, nat_le, nat_lt, slice_index, refl}
+use Rattle.std.specs.Prelude.{if◌then◌else◌, ◌≡◌, ℕ, ◌+◌, ◌*◌, ◌<◌, ◌≤◌, Bool, ◌&&◌, List, [], ◌∷◌, length, ◌==◌, nat_le, nat_lt, slice_index, refl}
 use Rattle.states.specs.Sets.{words, words_at}
 use Rattle.format.specs.Format.{most_acts}
-use Rattle.std.specs.Prelude.{if◌then◌else◌}
 use Rattle.states.specs.declared.States.{States}
 use Rattle.format.specs.Syntax.{fact, negation, Epistemic, known, any_of}
 use Rattle.routine.specs.Tables.{sheet_heads, node_cells, set_words, low}

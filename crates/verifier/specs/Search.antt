@@ -1,9 +1,8 @@
 -- The method: the search through the histories over a routine's tables, whatever numbers are in the memory. An auditor of the promises needs none of it;
 -- proofs/SearchLaws.antt shows its agreement with the histories of runs that follow the routine.
-use Rattle.std.specs.Prelude.{◌≡◌, ℕ, zero, suc, ◌+◌, ◌*◌, ◌%◌, true, false, List, [], ◌∷◌, ◌++◌, map, length, take, nat_eq, refl}
+use Rattle.std.specs.Prelude.{if◌then◌else◌, ◌≡◌, ℕ, zero, suc, ◌+◌, ◌*◌, ◌%◌, true, false, List, [], ◌∷◌, ◌++◌, map, length, take, nat_eq, refl}
 use Rattle.format.specs.Format.{most_acts}
 use Rattle.lists.specs.Lists.{up_from, below, nonempty}
-use Rattle.std.specs.Prelude.{if◌then◌else◌}
 use Rattle.states.specs.declared.States.{States}
 use Rattle.states.specs.Sets.{members}
 use Rattle.format.specs.Syntax.{top, fact, negation, Epistemic, known, any_of, end, act, probe, Sheet}

@@ -1,7 +1,8 @@
 //! The proved library's functions, wrapped for Rust.
 //!
 //! Nothing checks these declarations against the Rattle source
-//! (`crates/recovery/src/lib.rt`), so they are few and plain.
+//! (`crates/recovery_c/src/lib.rt`, which exports the functions of `crates/recovery`), so
+//! they are few and plain.
 
 pub mod plain;
 pub mod straight;
