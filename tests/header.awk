@@ -8,7 +8,7 @@ BEGIN {
     struct["verdict"] = "struct recovery_verdict"; struct["lengths"] = "struct recovery_lengths"; struct["told"] = "struct recovery_told"
     # Places in a stream's state that aren't those of figures, by what is read from them.
     behind["lengths"] = "STREAM_LENGTHS"; behind["held"] = "STREAM_BEGUN"
-    prefix["Refusal"] = "REFUSED"; prefix["Rejection"] = "REFUSED"; prefix["Verdict"] = "REFUSED"; prefix["Checked"] = "CHECKED"
+    prefix["Refusal"] = "REFUSED"; prefix["Rejection"] = "REFUSED"; prefix["VerifyError"] = "REFUSED"
 }
 
 # An expression with each name as a macro of its crate, or of the one from which the file uses it.
@@ -99,7 +99,7 @@ function uses(text,    path, parts, count, i, last) {
 /^use / { using = 1; list = "" }
 using { list = list $0; if (/;$/) { using = 0; uses(list) } }
 /^impl / { owner = $2 "__" }
-/^}/ { owner = "" }
+/^}/ { owner = ""; enum = "" }
 
 /^ *(pub(\(crate\))? )?const [A-Z_]+: usize = .*;$/ {
     name = $0
@@ -111,9 +111,22 @@ using { list = list $0; if (/;$/) { using = 0; uses(list) } }
     print "#define " crate "__" owner name " (" named(value) ")"
 }
 
-/^ +[A-Z][a-z]+::[A-Z][A-Za-z]* => [0-9]+,$/ {
-    split($1, arm, "::")
-    if (arm[1] in prefix) print "_Static_assert(RECOVERY_" prefix[arm[1]] "_" shouted(arm[2]) " == " $3 + 0 ", \"" $1 "\");"
+/^pub enum / { enum = $3 }
+
+/^ +[A-Z][A-Za-z]* = [0-9]+,$/ {
+    if (enum in prefix) print "_Static_assert(RECOVERY_" prefix[enum] "_" shouted($1) " == " $3 + 0 ", \"" enum "::" $1 "\");"
+}
+
+/^ +Err\([A-Z][A-Za-z]+::[A-Z][A-Za-z]*\) => [0-9]+,$/ {
+    name = $1
+    gsub(/^Err\(|\)$/, "", name)
+    split(name, arm, "::")
+    if (arm[1] in prefix) print "_Static_assert(RECOVERY_" prefix[arm[1]] "_" shouted(arm[2]) " == " $3 + 0 ", \"" name "\");"
+}
+
+# The checker's yes and no.
+/^ +Ok\((true|false)\) => [0-9]+,$/ {
+    print "_Static_assert(RECOVERY_CHECKED_" ($1 ~ /true/ ? "YES" : "NO") " == " $3 + 0 ", \"" $1 "\");"
 }
 
 /^ +[0-9]+ => Node::[A-Z][a-z]+\(/ {
@@ -123,7 +136,7 @@ using { list = list $0; if (/;$/) { using = 0; uses(list) } }
     print "_Static_assert(RECOVERY_NODE_" toupper(name) " == " $1 ", \"" name "\");"
 }
 
-/^ +(let )?[a-z]+(:| = .*)[ (]numbers\[[0-9]+\]/ {
+/^ +(let )?[a-z]+(:| =( .*)?)[ (]numbers\[[0-9]+\]/ {
     name = $1 == "let" ? $2 : $1
     sub(/:$/, "", name)
     place = $0

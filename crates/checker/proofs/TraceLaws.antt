@@ -1,13 +1,13 @@
 -- What a trace shows by a routine's tables, read two bytes at a time. Assumes nothing.
-use Prim.Native.Nat.{ℕ, ◌+◌, ◌/◌, ◌%◌, ◌<◌, ◌≤◌}
+use Prim.Native.Nat.{ℕ, ◌+◌, ◌-◌, ◌/◌, ◌%◌, ◌<◌, ◌≤◌}
 use mathlib.Core.Path.{◌≡◌, refl, sym, ap, ◌∙◌}
 use mathlib.Core.List.{List, [], ◌∷◌}
 use mathlib.Core.Bool.{Bool, true, false, ◌&&◌}
 use native.Mathlib.Omega.{arith}
 use lib.Dec.{eqb}
-use lib.ListN.{length, get_or, drop, drop_of_length-le}
+use lib.ListN.{length, get_or, take, drop, length-drop}
+use Rattle.std.proofs.lemmas.List.{take_rest}
 use borrow.Author.Tests.{eq-eqb, ne_eqb, le-leb, lt-leb}
-use Rattle.lists.proofs.ListLaws.{drop_next}
 use Rattle.states.specs.declared.States.{States}
 use Rattle.states.specs.Sets.{member, set_of}
 use Rattle.semantics.specs.Verdict.{longest_trace}
@@ -16,12 +16,8 @@ use Rattle.progression.specs.declared.place.Place.{Place}
 use Rattle.progression.specs.Machine.{settled, stepped}
 use Rattle.checker.specs.Shown.{end_fails, goes_on, shows_from, shows_by}
 
--- A trace's length: an even one, one above that of the longest trace, and any other.
+-- A trace's length: one above that of the longest trace, and an odd one that isn't.
 module _ (l : ℕ) where
-  pub even_length : (shows : Bool) → l % 2 ≡ 0 → is_trace_length l && shows ≡ false
-  unfolding is_trace_length
-  even_length shows e = rw e
-
   pub above_length : (shows : Bool) → longest_trace < l → is_trace_length l && shows ≡ false
   unfolding is_trace_length
   above_length shows h = rw (lt-leb l longest_trace h) (none (eqb (l % 2) 1))
@@ -34,11 +30,19 @@ module _ (l : ℕ) where
   unfolding is_trace_length
   trace_length odd h = rw (eq-eqb (l % 2) 1 (omega arith), le-leb l longest_trace h)
 
--- What stands from a place on.
-drop_two : (xs : List ℕ) (k : ℕ) → k + 1 < length xs → drop k xs ≡ get_or xs k 0 ∷ get_or xs (k + 1) 0 ∷ drop (k + 2) xs
-drop_two xs k l =
-    let e : k + 1 + 1 ≡ k + 2 = omega arith in
-    drop_next xs k (omega arith) ∙ ap (λ (ys : List ℕ). get_or xs k 0 ∷ ys) (drop_next xs (k + 1) l ∙ ap (λ (v : ℕ). get_or xs (k + 1) 0 ∷ drop v xs) e)
+-- What shows nothing is no trace, whatever its length.
+pub shows_nothing : (fits shows : Bool) → shows ≡ false → fits && shows ≡ false
+shows_nothing true shows e = e
+shows_nothing false shows e = refl
+
+-- The bytes behind the first n, as a slice, and the first two.
+pub behind_length : (n : ℕ) (xs : List ℕ) → length (take (length xs - n) (drop n xs)) ≡ length xs - n
+behind_length n xs = ap (length {A = ℕ}) (take_rest xs n) ∙ length-drop n xs
+
+first_two : (xs : List ℕ) → 2 ≤ length xs → xs ≡ get_or xs 0 0 ∷ get_or xs 1 0 ∷ drop 2 xs
+first_two [] h = absurd (omega (arith, h))
+first_two (b ∷ []) h = absurd (omega (arith, h))
+first_two (b ∷ t ∷ xs) h = refl
 
 -- One step, by how many bytes are left.
 module _ (heads nodes sets : List ℕ) (set : States) (at : ℕ) (own : States) where
@@ -46,46 +50,62 @@ module _ (heads nodes sets : List ℕ) (set : States) (at : ℕ) (own : States) 
   unfolding shows_from
   none_left = refl
 
+  one_more : (b : ℕ) → shows_from heads nodes sets set at own (b ∷ []) ≡ false
+  unfolding shows_from
+  one_more b = refl
+
   pub two_left : (b t : ℕ) (rest : List ℕ) → shows_from heads nodes sets set at own (b ∷ t ∷ rest)
       ≡ goes_on heads nodes sets (settled nodes sets set at) (b / 8) (b % 8) t own set (λ after next. shows_from heads nodes sets after next (set_of (λ u. eqb u t)) rest)
   unfolding shows_from
   two_left b t rest = refl
 
-module _ (heads nodes sets : List ℕ) (trace : List ℕ) where
+module _ (heads nodes sets : List ℕ) where
   -- The first byte is a start state, or the trace shows nothing.
-  module _ (start : States) (some : 0 < length trace) where
-    first_byte : shows_by heads nodes sets start trace ≡ member start (get_or trace 0 0) && shows_from heads nodes sets start 0 (set_of (λ u. eqb u (get_or trace 0 0))) (drop 1 trace)
+  module _ (start : States) where
+    pub no_byte : (trace : List ℕ) → length trace < 1 → shows_by heads nodes sets start trace ≡ false
     unfolding shows_by
-    first_byte = ap (shows_by heads nodes sets start) (drop_next trace 0 some)
+    no_byte [] h = refl
+    no_byte (s ∷ rest) h = absurd (omega (arith, h))
 
-    pub no_start : (fits : Bool) → member start (get_or trace 0 0) ≡ false → fits && shows_by heads nodes sets start trace ≡ false
-    no_start true e = first_byte ∙ rw e
-    no_start false e = refl
+    first_byte : (trace : List ℕ) → 1 ≤ length trace
+        → shows_by heads nodes sets start trace ≡ member start (get_or trace 0 0) && shows_from heads nodes sets start 0 (set_of (λ u. eqb u (get_or trace 0 0))) (drop 1 trace)
+    unfolding shows_by
+    first_byte [] h = absurd (omega (arith, h))
+    first_byte (s ∷ rest) h = refl
 
-    pub starts : member start (get_or trace 0 0) ≡ true → shows_by heads nodes sets start trace ≡ shows_from heads nodes sets start 0 (set_of (λ u. eqb u (get_or trace 0 0))) (drop 1 trace)
-    starts e = first_byte ∙ rw e
+    module _ (trace : List ℕ) (some : 1 ≤ length trace) where
+      pub no_start : member start (get_or trace 0 0) ≡ false → shows_by heads nodes sets start trace ≡ false
+      no_start e = first_byte trace some ∙ rw e
 
-  -- Two bytes more: the run ends, another action comes next, the state doesn't follow, or the run goes on.
-  module _ (set : States) (at : ℕ) (own : States) (k : ℕ) where
+      pub starts : member start (get_or trace 0 0) ≡ true → (one : States) → one ≡ set_of (λ u. eqb u (get_or trace 0 0))
+          → shows_by heads nodes sets start trace ≡ shows_from heads nodes sets start 0 one (take (length trace - 1) (drop 1 trace))
+      starts e one o =
+          first_byte trace some ∙ ap (λ (b : Bool). b && shows_from heads nodes sets start 0 (set_of (λ u. eqb u (get_or trace 0 0))) (drop 1 trace)) e
+          ∙ ap (λ (u : States). shows_from heads nodes sets start 0 u (drop 1 trace)) (sym o)
+          ∙ ap (shows_from heads nodes sets start 0 one) (sym (take_rest trace 1))
+
+  -- What the bytes that are left show from a set, a node and the run's own state.
+  module _ (rest : List ℕ) (set : States) (at : ℕ) (own : States) where
+    abbrev from : Bool
+    from = shows_from heads nodes sets set at own rest
+
     abbrev b : ℕ
-    b = get_or trace k 0
+    b = get_or rest 0 0
 
     abbrev t : ℕ
-    t = get_or trace (k + 1) 0
+    t = get_or rest 1 0
 
-    -- The run's own state behind them.
+    -- The run's own state behind two bytes more, and what is left then.
     abbrev own' : States
     own' = set_of (λ u. eqb u t)
 
-    abbrev from : Bool
-    from = shows_from heads nodes sets set at own (drop k trace)
-
-    module _ (room : k + 1 < length trace) where
+    -- Two bytes more: the run ends, another action comes next, the state doesn't follow, or the run goes on.
+    module _ (room : 2 ≤ length rest) where
       two_bytes : (place : Place) → settled nodes sets set at ≡ place
-          → from ≡ goes_on heads nodes sets place (b / 8) (b % 8) t own set (λ after next. shows_from heads nodes sets after next own' (drop (k + 2) trace))
+          → from ≡ goes_on heads nodes sets place (b / 8) (b % 8) t own set (λ after next. shows_from heads nodes sets after next own' (drop 2 rest))
       two_bytes place e =
-          ap (shows_from heads nodes sets set at own) (drop_two trace k room) ∙ two_left heads nodes sets set at own b t (drop (k + 2) trace)
-          ∙ ap (λ (p : Place). goes_on heads nodes sets p (b / 8) (b % 8) t own set (λ after next. shows_from heads nodes sets after next own' (drop (k + 2) trace))) e
+          ap (shows_from heads nodes sets set at own) (first_two rest room) ∙ two_left heads nodes sets set at own b t (drop 2 rest)
+          ∙ ap (λ (p : Place). goes_on heads nodes sets p (b / 8) (b % 8) t own set (λ after next. shows_from heads nodes sets after next own' (drop 2 rest))) e
 
       pub ends_before : (holds : Bool) → settled nodes sets set at ≡ Place.End holds → from ≡ false
       unfolding goes_on
@@ -93,7 +113,7 @@ module _ (heads nodes sets : List ℕ) (trace : List ℕ) where
 
       module _ (node action : ℕ) (e : settled nodes sets set at ≡ Place.Act node action) where
         abbrev onward : Bool
-        onward = shows_from heads nodes sets (stepped heads sets set action (b % 8)) (node + 1) own' (drop (k + 2) trace)
+        onward = shows_from heads nodes sets (stepped heads sets set action (b % 8)) (node + 1) own' (drop 2 rest)
 
         abbrev follows_state : Bool
         follows_state = member (stepped heads sets own action (b % 8)) t
@@ -116,11 +136,24 @@ module _ (heads nodes sets : List ℕ) (trace : List ℕ) where
           no_step = same_action false
 
           pub goes_on_law : member after t ≡ true → (more : States) → more ≡ stepped heads sets set action (b % 8) → (one : States) → one ≡ own'
-              → from ≡ shows_from heads nodes sets more (node + 1) one (drop (k + 2) trace)
+              → from ≡ shows_from heads nodes sets more (node + 1) one (take (length rest - 2) (drop 2 rest))
           goes_on_law m more g one o =
-              same_action true m ∙ ap (λ (u : States). shows_from heads nodes sets u (node + 1) own' (drop (k + 2) trace)) (sym g)
-              ∙ ap (λ (u : States). shows_from heads nodes sets more (node + 1) u (drop (k + 2) trace)) (sym o)
+              same_action true m ∙ ap (λ (u : States). shows_from heads nodes sets u (node + 1) own' (drop 2 rest)) (sym g)
+              ∙ ap (λ (u : States). shows_from heads nodes sets more (node + 1) u (drop 2 rest)) (sym o)
+              ∙ ap (shows_from heads nodes sets more (node + 1) one) (sym (take_rest rest 2))
 
-    -- No byte is left.
-    pub all_read : (place : Place) → settled nodes sets set at ≡ place → length trace ≤ k → from ≡ end_fails place
-    all_read place e l = ap (shows_from heads nodes sets set at own) (drop_of_length-le trace l) ∙ none_left heads nodes sets set at own ∙ ap end_fails e
+    -- One byte is left, or none.
+    pub one_left : length rest < 2 → 1 ≤ length rest → from ≡ false
+    one_left h k = go rest h k
+      where
+        go : (xs : List ℕ) → length xs < 2 → 1 ≤ length xs → shows_from heads nodes sets set at own xs ≡ false
+        go [] h k = absurd (omega (arith, k))
+        go (b ∷ []) h k = one_more heads nodes sets set at own b
+        go (b ∷ t ∷ xs) h k = absurd (omega (arith, h))
+
+    pub all_read : (place : Place) → settled nodes sets set at ≡ place → length rest < 1 → from ≡ end_fails place
+    all_read place e h = go rest h ∙ ap end_fails e
+      where
+        go : (xs : List ℕ) → length xs < 1 → shows_from heads nodes sets set at own xs ≡ end_fails (settled nodes sets set at)
+        go [] h = none_left heads nodes sets set at own
+        go (b ∷ xs) h = absurd (omega (arith, h))

@@ -4,23 +4,14 @@
 ghost use Rattle.std.specs.Prelude.{◌≡◌, ◌&&◌, length};
 ghost use Rattle.format.specs.Format.{reading};
 ghost use Rattle.semantics.specs.Checker.{is_trace_length, checked};
-ghost use Rattle.routine.specs.Memory.{Sized};
 ghost use Rattle.routine.specs.Tables.{TablesAfter};
 ghost use Rattle.checker.specs.Answers.{answer_of};
 ghost use Rattle.checker.specs.Shown.{shows_by};
 
 use progression::{Place, settle, step};
 use reader::Refusal;
-use routine::{HEAD_CELLS, NODE_CELLS, Prepared, SET_WORDS, TRACE, prepare};
+use routine::{HEAD_CELLS, NODE_CELLS, SET_WORDS, TRACE, prepare};
 use states::States;
-
-// Yes or no, or the sheet is refused.
-#[derive(Clone, Copy)]
-pub enum Checked {
-    Yes,
-    No,
-    Refused(Refusal),
-}
 
 // Whether a trace's length is odd and at most that of the longest, and the trace is that of a full run whose history
 // fails the goal, by a routine's tables and its start set.
@@ -33,42 +24,42 @@ fn shows(
 ) -> bool
     ensures { result ≡ (is_trace_length (length trace.now) && shows_by heads.now nodes.now sets.now start trace.now) }
 {
-    if trace.len() % 2 == 0 {
+    let [first, behind @ ..] = trace else {
         return false;
-    }
+    };
     if TRACE < trace.len() {
         return false;
     }
-    let first = trace[0];
-    if !start.has(first) {
+    if !start.has(*first) {
         return false;
     }
-    let mut own = States::one(first);
+    let mut own = States::one(*first);
     let mut set = start;
     let mut at = 0;
-    let mut k = 1;
-    while k < trace.len() {
-        let b = trace[k];
+    let mut rest = behind;
+    while let [b, next, tail @ ..] = rest {
         match settle(nodes, sets, set, at) {
             Place::End(holds) => {
                 return false;
             }
             Place::Act(node, action) => {
-                if action != (b / 8) as usize {
+                if action != (*b / 8) as usize {
                     return false;
                 }
-                let reply = (b % 8) as usize;
-                let next = trace[k + 1];
-                if !step(heads, sets, own, action, reply).has(next) {
+                let reply = (*b % 8) as usize;
+                if !step(heads, sets, own, action, reply).has(*next) {
                     return false;
                 }
                 set = step(heads, sets, set, action, reply);
-                own = States::one(next);
+                own = States::one(*next);
                 at = node + 1;
-                k = k + 2;
+                rest = tail;
             }
         }
     }
+    let [] = rest else {
+        return false;
+    };
     let last = settle(nodes, sets, set, at);
     match last {
         Place::Act(node, action) => false,
@@ -84,22 +75,17 @@ pub fn check_in(
     heads: &mut [u16; HEAD_CELLS],
     nodes: &mut [u16; NODE_CELLS],
     sets: &mut [u64; SET_WORDS],
-) -> Checked
-    ensures { (Sized heads.old nodes.old sets.old → answer_of result ≡ checked bytes.now trace.now) × TablesAfter (reading bytes.now) heads.old nodes.old sets.old heads.new nodes.new sets.new }
+) -> Result<bool, Refusal>
+    ensures { (answer_of result ≡ checked bytes.now trace.now) × TablesAfter (reading bytes.now) heads.old nodes.old sets.old heads.new nodes.new sets.new }
 {
     match prepare(bytes, heads, nodes, sets) {
-        Prepared::Refused(r) => Checked::Refused(r),
-        Prepared::Ready(start) => {
-            if shows(heads, nodes, sets, start, trace) {
-                return Checked::Yes;
-            }
-            Checked::No
-        }
+        Ok(start) => Ok(shows(heads, nodes, sets, start, trace)),
+        Err(refusal) => Err(refusal),
     }
 }
 
 // The same in tables of its own.
-pub fn check(bytes: &[u8], trace: &[u8]) -> Checked
+pub fn check(bytes: &[u8], trace: &[u8]) -> Result<bool, Refusal>
     ensures { answer_of result ≡ checked bytes.now trace.now }
 {
     let mut heads = [0u16; HEAD_CELLS];

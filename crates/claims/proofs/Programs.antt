@@ -50,10 +50,10 @@ module _ (W : World) (tables : HasTables W) where
   runner_needs = (tables.6, progression_needs, reader_needs, routine_needs, states_needs)
 
   release_needs : release.Needs W
-  release_needs = (tables.7, verifier_needs)
+  release_needs = (tables.7, progression_needs, verifier_needs)
 
   printing_needs : printing.Needs W
-  printing_needs = (tables.8, reader_needs, verifier_needs)
+  printing_needs = (tables.8, verifier_needs)
 
   pub recovery_needs : recovery.Needs W
   recovery_needs = (tables.9, checker_needs, printing_needs, progression_needs, reader_needs, release_needs, routine_needs, runner_needs, states_needs, verifier_needs)

@@ -64,6 +64,10 @@ give_mapped {A} f m bytes p = go (m bytes p)
 pub mapped_give : {A B C : Type 0} (g : B → C) (m : Reader A) (f : A → B) (bytes : List ℕ) (p : ℕ) → mapped g ((m >>= λ a. give (f a)) bytes p) ≡ mapped (λ a. g (f a)) (m bytes p)
 mapped_give g m f bytes p = ap (mapped g) (give_mapped f m bytes p) ∙ mapped_twice f g (m bytes p)
 
+-- What was found of what the code names otherwise.
+pub found_as : {A B : Type 0} (of : A → B) {a b : A} {p : ℕ} {x : Read B} → got (of a) p ≡ x → a ≡ b → x ≡ got (of b) p
+found_as of {p = p} e same = sym e ∙ ap (λ y. got (of y) p) same
+
 -- A sheet by its length.
 module _ {A : Type 0} (m : Reader A) (bytes : List ℕ) (p : ℕ) where
   -- One of at most 1,024 bytes is read.

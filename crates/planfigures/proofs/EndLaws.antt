@@ -14,8 +14,7 @@ use Rattle.release.specs.declared.figures.Figures.{Figures}
 use Rattle.release.specs.declared.feeding.Release.{Release}
 use Rattle.release.specs.Counting.{no_figures}
 use Rattle.release.specs.Feeding.{onward, state_of, is_done}
-use Rattle.planfigures.specs.declared.Next.{Next}
-use Rattle.planfigures.specs.Input.{brought_by, Within, Followed, Bytes, Reached}
+use Rattle.planfigures.specs.Input.{Followed, Bytes, Reached}
 
 -- Bytes laid end to end, and the first of some.
 bytes_append : (xs ys : List ℕ) → Bytes xs → Bytes ys → Bytes (xs ++ ys)
@@ -113,31 +112,16 @@ reads_on stream more h m d =
     let e = ap (λ (s : Release). s.lengths) (state_onward stream) ∙ onward_lengths no_figures 0 stream in
     omega (arith, state_left stream, state_left (stream ++ more), falls most_lengths stream more h m (omega (arith, l, e)))
 
--- What a call of `read` brought are bytes, and some if it brought a piece.
-bytes_brought : (next : Next) (memory : List ℕ) → Bytes memory → Bytes (brought_by next memory)
-unfolding brought_by
-bytes_brought (Next.Piece n) memory h = bytes_take n memory h
-bytes_brought (Next.Over ending) memory h = λ i. omega arith
-
-some_brought : (next : Next) (n : ℕ) (memory : List ℕ) → next ≡ Next.Piece n → Within next (length memory) → 0 < length (brought_by next memory)
-unfolding brought_by Within
-some_brought (Next.Piece m) n memory e w = omega (arith, length-take-le m memory w.1, w.0)
-some_brought (Next.Over ending) n memory e w = let z : ◌≡◌ {A = ℕ} 0 1 = cc in absurd (omega arith)
-
--- The state that it leads to is that of a stream too, and less is left to read if it brought a piece.
-module _ (before after : Release) (next : Next) (memory : List ℕ) (r : Reached before) (f : Followed before next memory after) where
+-- The state that a call of `read` leads to that brought bytes is that of a stream too, and less is left to read.
+module _ (before after : Release) (came : ℕ) (memory : List ℕ) (r : Reached before) (f : Followed before came memory after) where
   pub reached_on : Bytes memory → Reached after
   reached_on h = record {
-    stream = r.stream ++ brought_by next memory;
-    bytes = bytes_append r.stream (brought_by next memory) r.bytes (bytes_brought next memory h);
+    stream = r.stream ++ take came memory;
+    bytes = bytes_append r.stream (take came memory) r.bytes (bytes_take came memory h);
     same = f.onward r.stream r.same;
   }
 
-  pub less_to_read : (n : ℕ) → next ≡ Next.Piece n → (d : Bool) → d ≡ is_done before → not d ≡ true → to_read after < to_read before
-  less_to_read n e d i t =
-      let k = reads_on r.stream (brought_by next memory) r.bytes (some_brought next n memory e f.within) (ap is_done (sym r.same) ∙ sym i ∙ not-true d t) in
+  pub less_to_read : (d : Bool) → d ≡ is_done before → not d ≡ true → to_read after < to_read before
+  less_to_read d i t =
+      let k = reads_on r.stream (take came memory) r.bytes (omega (arith, f.some, length-take-le came memory f.within)) (ap is_done (sym r.same) ∙ sym i ∙ not-true d t) in
       rw (f.onward r.stream r.same, r.same) k
-
--- The state of no bytes.
-pub reached_none : (state : Release) → state ≡ state_of [] → Reached state
-reached_none state e = record { stream = []; bytes = λ i. omega arith; same = e }

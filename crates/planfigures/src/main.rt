@@ -2,39 +2,41 @@
 // Where the input can't be read to its end, or the line can't be written, it says so on standard error.
 #![tactic(auto)]
 
-ghost use Rattle.std.specs.Prelude.{◌≡◌, ◌≤◌, ◌<◌, length, take};
-ghost use Rattle.routine.specs.Memory.{Sized};
-ghost use Rattle.planfigures.specs.Input.{after_read, Followed, Reached, Over, line_of, LineFor};
+ghost use Rattle.std.specs.Prelude.{◌≡◌, ◌≤◌, ◌<◌, IfOk, length};
+ghost use Rattle.lists.specs.Lists.{write};
+ghost use Rattle.semantics.specs.Printing.{most_lines};
+ghost use Rattle.planfigures.specs.Input.{after_read, Brought, Reached, Over, line_of, LineFor};
 
 use printing::LINES;
 use release::Release;
 use routine::{HEAD_CELLS, NODE_CELLS, SET_WORDS};
 use std::io;
-use std::io::{Print, Read, Stderr, Stdin, Stdout};
+use std::io::{Eprint, Print, Read, Stdin, Stdout};
 use verifier::MEMO_WORDS;
 
 // The bytes that one call of `read` asks for.
 const PIECE: usize = 65536;
 
-// How reading ended: the input did, or nothing more of it is looked at, or it couldn't be read.
+// How reading ended: the input did, or nothing more of it is looked at.
 #[derive(Clone, Copy)]
 enum Ending {
     End,
     Done,
-    Failed,
 }
 
-// What follows a call of `read`: so many bytes came, or reading is over.
-#[derive(Clone, Copy)]
-enum Next {
-    Piece(usize),
-    Over(Ending),
+// The tables that `feed` works in.
+#[derive(Drop)]
+struct Tables {
+    heads: [u16; HEAD_CELLS],
+    nodes: [u16; NODE_CELLS],
+    sets: [u64; SET_WORDS],
+    memo: [u64; MEMO_WORDS],
 }
 
-// A state, and what the call of `read` that led there brought.
+// So many bytes came, and the state with them.
 #[derive(Clone, Copy)]
 struct Step {
-    next: Next,
+    came: usize,
     state: Release,
 }
 
@@ -45,145 +47,101 @@ struct Input {
     state: Release,
 }
 
-// The line for an input: the first `length` bytes.
-#[derive(Clone, Copy)]
-struct Line {
-    bytes: [u8; LINES],
-    length: usize,
-}
-
-// What follows a call of `read` that answered `got`. One that a signal interrupts counts as failed, as in planverify.
-fn after(got: io::Result<usize>) -> Next
+// What a call of `read` brought that answered `got`: so many bytes, or the end. One that a signal interrupts counts as failed, as in
+// planverify.
+fn after(got: io::Result<usize>) -> io::Result<Option<usize>>
     ensures { result ≡ after_read got }
 {
-    let Ok(put) = got else {
-        return Next::Over(Ending::Failed);
-    };
-    if put == 0 {
-        return Next::Over(Ending::End);
+    let came = got?;
+    if came == 0 {
+        return Ok(None);
     }
-    Next::Piece(put)
+    Ok(Some(came))
 }
 
-// Reads a piece of standard input into `memory`, as much as comes, and feeds it to the state. (Without room `read` would answer 0,
-// as at the end.)
+// Reads a piece of standard input into `memory`, as much as comes, and feeds it to the state; at the end there is none. (Without
+// room `read` would answer 0, as at the end.)
 fn read_piece(
     mut stdin: Stdin,
     state: Release,
     memory: &mut [u8],
-    heads: &mut [u16; HEAD_CELLS],
-    nodes: &mut [u16; NODE_CELLS],
-    sets: &mut [u64; SET_WORDS],
-    memo: &mut [u64; MEMO_WORDS],
-) -> Step
-    requires { (0 < length memory.old) × Sized heads.old nodes.old sets.old }
-    ensures { Followed state result.next memory.new result.state × Sized heads.new nodes.new sets.new }
+    tables: &mut Tables,
+) -> io::Result<Option<Step>>
+    requires { 0 < length memory.old }
+    ensures { Brought state result memory.new }
 {
     let got = stdin.read(memory);
-    let next = after(got);
-    match next {
-        Next::Piece(n) => {
-            let fed = state.feed(&memory[..n], heads, nodes, sets, memo);
-            Step {
-                next: next,
-                state: fed,
-            }
-        }
-        Next::Over(ending) => Step {
-            next: Next::Over(ending),
-            state: state,
-        },
-    }
+    let Some(came) = after(got)? else {
+        return Ok(None);
+    };
+    let fed = state.feed(
+        &memory[..came],
+        &mut tables.heads,
+        &mut tables.nodes,
+        &mut tables.sets,
+        &mut tables.memo,
+    );
+    Ok(Some(Step { came, state: fed }))
 }
 
 // Reads standard input piece by piece, to its end or until nothing more is looked at.
-fn read_input(
-    stdin: Stdin,
-    memory: &mut [u8],
-    heads: &mut [u16; HEAD_CELLS],
-    nodes: &mut [u16; NODE_CELLS],
-    sets: &mut [u64; SET_WORDS],
-    memo: &mut [u64; MEMO_WORDS],
-) -> Input
-    requires { (0 < length memory.old) × Sized heads.old nodes.old sets.old }
-    ensures { Reached result.state × Over result.ending result.state }
+fn read_input(stdin: Stdin, memory: &mut [u8], tables: &mut Tables) -> io::Result<Input>
+    requires { 0 < length memory.old }
+    ensures { IfOk result (λ i. Reached i.state × Over i.ending i.state) }
 {
     let mut state = Release::start();
     while !state.is_done() {
-        let step = read_piece(stdin, state, memory, heads, nodes, sets, memo);
+        let Some(step) = read_piece(stdin, state, memory, tables)? else {
+            return Ok(Input {
+                ending: Ending::End,
+                state,
+            });
+        };
         state = step.state;
-        let next = step.next;
-        if let Next::Over(ending) = next {
-            return Input {
-                ending: ending,
-                state: state,
-            };
-        }
     }
-    Input {
+    Ok(Input {
         ending: Ending::Done,
-        state: state,
-    }
+        state,
+    })
 }
 
-// The line for an input. There is none if it couldn't be read.
-fn line_for(input: Input) -> Line
-    ensures { (take result.length result.bytes ≡ line_of input) × (result.length ≤ length result.bytes) }
+// Writes the line for an input into `out`, and gives its length. There is none if it couldn't be read.
+fn line_for(input: io::Result<Input>, out: &mut [u8; LINES]) -> usize
+    ensures { (result ≡ length (line_of input)) × (out.new ≡ write out.old 0 (line_of input)) × (result ≤ most_lines) }
 {
-    let mut bytes = [0u8; LINES];
-    let ending = input.ending;
-    if let Ending::Failed = ending {
-        return Line {
-            bytes: bytes,
-            length: 0,
-        };
-    }
-    let state = input.state;
-    let figures = state.end();
-    let length = printing::print_figures(figures.numbers(), &mut bytes);
-    Line {
-        bytes: bytes,
-        length: length,
+    match input {
+        Ok(Input { state, .. }) => {
+            let figures = state.end();
+            printing::print_figures(figures.numbers(), out)
+        }
+        Err(_) => 0,
     }
 }
 
 // Hands bytes to standard output, and no others than the line of a stream that leads to the input's state: `main` writes there by
 // this alone.
-fn put_line(stdout: Stdout, input: Input, line: &[u8]) -> bool
+fn put_line(stdout: Stdout, input: io::Result<Input>, line: &[u8]) -> io::Result<()>
     requires { LineFor input line.now }
 {
-    stdout.write_all(line).is_ok()
+    stdout.write_all(line)
 }
 
 // Nothing is left to do where standard error can't be written.
-fn tell(stderr: Stderr, message: &[u8]) {
-    let _ = stderr.write_all(message);
-}
-
 fn main(rt: HostRuntime) {
-    let mut heads = [0u16; HEAD_CELLS];
-    let mut nodes = [0u16; NODE_CELLS];
-    let mut sets = [0u64; SET_WORDS];
-    let mut memo = [0u64; MEMO_WORDS];
+    let mut tables = Tables {
+        heads: [0; HEAD_CELLS],
+        nodes: [0; NODE_CELLS],
+        sets: [0; SET_WORDS],
+        memo: [0; MEMO_WORDS],
+    };
     let mut memory = [0u8; PIECE];
-    let input = read_input(
-        rt.stdin(),
-        &mut memory,
-        &mut heads,
-        &mut nodes,
-        &mut sets,
-        &mut memo,
-    );
-    let ending = input.ending;
-    if let Ending::Failed = ending {
-        tell(rt.stderr(), b"planfigures: the input could not be read\n");
+    let mut out = [0u8; LINES];
+    let input = read_input(rt.stdin(), &mut memory, &mut tables);
+    if input.is_err() {
+        let _ = eprintln!(rt; "planfigures: the input could not be read");
     }
-    let line = line_for(input);
-    let bytes = line.bytes;
-    if !put_line(rt.stdout(), input, &bytes[..line.length]) {
-        tell(
-            rt.stderr(),
-            b"planfigures: the answer could not be written\n",
-        );
+    let length = line_for(input, &mut out);
+    if put_line(rt.stdout(), input, &out[..length]).is_err() {
+        let _ = eprintln!(rt; "planfigures: the answer could not be written");
     }
 }

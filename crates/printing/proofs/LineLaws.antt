@@ -1,26 +1,28 @@
--- Laws of the printed lines: digits, decimals and bytes in hexadecimal, and parts put one behind the other. Assumes nothing.
+-- Laws of the printed lines: digits, decimals and bytes in hexadecimal, and parts written one behind the other. Assumes nothing.
 use Prim.Native.Nat.{ℕ, zero, suc, ◌+◌, ◌-◌, ◌*◌, ◌/◌, ◌%◌, ◌^◌, ◌≤◌, ◌<◌}
-use mathlib.Core.Path.{◌≡◌, refl, ap, ap₂, sym, subst, ◌∙◌}
-use mathlib.Core.List.{List, [], ◌∷◌, ◌++◌, append_assoc}
+use mathlib.Core.Path.{◌≡◌, refl, ap, sym, subst, ◌∙◌}
+use mathlib.Core.List.{List, [], ◌∷◌, ◌++◌, append-nil, flat_map}
 use mathlib.Core.Bool.{Bool, true, false}
 use native.Mathlib.Omega.{arith}
 use native.Mathlib.Nat.{pow-suc}
 use lib.Dec.{ltb}
 use borrow.Author.Tests.{ltb-true, ltb-false, lt-ltb, le-ltb}
-use lib.ListN.{length, get_or, take, drop, set, length-append, drop_of_length-le}
+use lib.ListN.{length, get_or, take, drop, set, length-append}
 use lib.Seq.{take-suc, take_all, drop-cons, length-take-le}
+use Rattle.std.proofs.lemmas.List.{take-append-drop}
 use Rattle.lists.specs.Lists.{write}
-use Rattle.std.specs.Prelude.{if◌then◌else◌}
-use Rattle.reader.specs.declared.refusal.Refusal.{Refusal}
+use Rattle.std.specs.Prelude.{Result, Ok, Err, if◌then◌else◌}
 use Rattle.format.specs.Format.{gives}
-use Rattle.reader.specs.Answers.{number_of, number_for}
+use Rattle.reader.specs.Answers.{number_for}
 use Rattle.semantics.specs.Verdict.{invalid}
-use Rattle.semantics.specs.Printing.{space, line_feed, digit, decimal, hexadecimal, invalid_word, refused_word, end_line, printed_for, spaced, numbers_line, most_lines}
+use Rattle.semantics.specs.Printing.{space, digit, decimal, hexadecimal, behind_space, refused_word, end_line, printed_for, spaced, numbers_line, most_lines}
 use Rattle.semantics.proofs.PrintingLaws.{decimal_small, decimal_more}
-use Rattle.routine.proofs.WriteLaws.{written_on, write_length}
+use Rattle.routine.proofs.WriteLaws.{written_on, write_length, spread_append}
 use Rattle.verifier.specs.declared.verdict.Verdict.{Verdict}
+use Rattle.verifier.specs.declared.verdict.VerifyError.{VerifyError}
 use Rattle.verifier.specs.Answers.{answer_of}
-use Rattle.printing.specs.Lines.{Put, behind_word, shown_in, Printable}
+use Rattle.printing.specs.declared.text.Text.{Text}
+use Rattle.printing.specs.Lines.{Room, Appended, shown_in, Printable}
 
 -- The digit of a number, below 10 and from 10 on.
 pub digit_low : (d : ℕ) → d < 10 → 0x30 + d ≡ digit d
@@ -31,23 +33,60 @@ pub digit_high : (d : ℕ) → 10 ≤ d → 0x61 + (d - 10) ≡ digit d
 unfolding digit
 digit_high d h = rw (le-ltb d 10 h) (omega arith)
 
--- One byte is put, and two parts one behind the other.
-pub put_one : (m : List ℕ) (at b : ℕ) → Put m (set m at b) at (at + 1) (b ∷ [])
+-- One byte is written, and two parts one behind the other.
+pub one : (t : Text) (b : ℕ) → Room t (b ∷ []) → Appended t (record { bytes = set t.bytes t.length b; length = t.length + 1 }) (b ∷ [])
 unfolding write
-put_one m at b = record { place = refl; written = refl }
+one t b h = record { longer = refl; written = refl; within = h.fits }
 
-module _ {m u v : List ℕ} {i j k : ℕ} {xs ys : List ℕ} where
-  pub put_on : Put m u i j xs → Put u v j k ys → Put m v i k (xs ++ ys)
-  put_on p q = record {
-    place = omega (arith, p.place, q.place, length-append xs ys);
-    written = written_on m u v i j xs ys p.written q.written (sym p.place);
+pub none : (t : Text) → t.length ≤ most_lines → Appended t t []
+unfolding write
+none t h = record { longer = omega arith; written = refl; within = h }
+
+module _ {t u : Text} {xs : List ℕ} where
+  pub on : {v : Text} {ys : List ℕ} → Appended t u xs → Appended u v ys → Appended t v (xs ++ ys)
+  on {v} {ys} p q = record {
+    longer = omega (arith, p.longer, q.longer, length-append xs ys);
+    written = written_on t.bytes u.bytes v.bytes t.length u.length xs ys p.written q.written (sym p.longer);
+    within = q.within;
   }
 
+  -- There is room for the second part behind the first.
+  pub behind : (ys : List ℕ) → Room t (xs ++ ys) → Appended t u xs → Room u ys
+  behind ys h p = record { fits = omega (arith, h.fits, p.longer, length-append xs ys) }
+
+pub ahead : {t : Text} (xs ys : List ℕ) → Room t (xs ++ ys) → Room t xs
+ahead xs ys h = record { fits = omega (arith, h.fits, length-append xs ys) }
+
+-- Items are written one behind the other, each as `shown` says.
+pub none_yet : (shown : ℕ → List ℕ) (t : Text) → t.length ≤ most_lines → Appended t t (flat_map shown [])
+unfolding flat_map
+none_yet shown t h = none t h
+
+module _ (shown : ℕ → List ℕ) (items : List ℕ) {t u : Text} (i : ℕ) where
+  pub next_room : Room t (flat_map shown items) → Appended t u (flat_map shown (take i items)) → i < length items → Room u (shown (get_or items i 0))
+  unfolding flat_map
+  next_room h p l =
+      let e = ap (flat_map shown) (sym (take-append-drop i items)) ∙ spread_append shown (take i items) (drop i items) in
+      let d = ap (λ (xs : List ℕ). length (flat_map shown xs)) (drop-cons items i 0 l) in
+      record {
+        fits = omega (arith, h.fits, p.longer, ap length e, length-append (flat_map shown (take i items)) (flat_map shown (drop i items)), d, length-append (shown (get_or items i 0)) (flat_map shown (drop (suc i) items)));
+      }
+
+  pub next : {v : Text} → Appended t u (flat_map shown (take i items)) → i < length items → Appended u v (shown (get_or items i 0)) → Appended t v (flat_map shown (take (i + 1) items))
+  unfolding flat_map
+  next {v} p l q =
+      let s : i + 1 ≡ suc i = omega arith in
+      let e = ap (λ (j : ℕ). flat_map shown (take j items)) s ∙ ap (flat_map shown) (take-suc items i 0 l) ∙ spread_append shown (take i items) (get_or items i 0 ∷ []) in
+      subst (Appended t v) (sym e) (on p (subst (Appended u v) (sym (append-nil (shown (get_or items i 0)))) q))
+
+  pub all : Appended t u (flat_map shown (take i items)) → length items ≤ i → Appended t u (flat_map shown items)
+  all p l = subst (λ (xs : List ℕ). Appended t u (flat_map shown xs)) (take_all i items l) p
+
 -- The length of a number's decimal: one digit, one more, and at most so many.
-pub small_length : (n : ℕ) → n < 10 → length (decimal n) ≡ 1
+small_length : (n : ℕ) → n < 10 → length (decimal n) ≡ 1
 small_length n h = ap length (decimal_small n h)
 
-pub more_length : (n : ℕ) → 10 ≤ n → length (decimal n) ≡ length (decimal (n / 10)) + 1
+more_length : (n : ℕ) → 10 ≤ n → length (decimal n) ≡ length (decimal (n / 10)) + 1
 more_length n h = ap length (decimal_more n h) ∙ length-append (decimal (n / 10)) (digit (n % 10) ∷ [])
 
 decimal_length : (k n : ℕ) → n < 10 ^ suc k → length (decimal n) ≤ suc k
@@ -59,147 +98,140 @@ decimal_length (suc k) n h =
     go true t below = omega (arith, small_length n (ltb-true n 10 t))
     go false t below = omega (arith, more_length n (ltb-false n 10 t))
 
-pub decimal_most : (n : ℕ) → n < 4294967296 → length (decimal n) ≤ 10
-decimal_most n h = decimal_length 9 n (omega arith)
+pub decimal_most : (n : ℕ) → n < 18446744073709551616 → length (decimal n) ≤ 20
+decimal_most n h = decimal_length 19 n (omega arith)
 
-pub decimal_most_wide : (n : ℕ) → n < 18446744073709551616 → length (decimal n) ≤ 20
-decimal_most_wide n h = decimal_length 19 n (omega arith)
+-- A number's decimal is its last digit behind the others, if there are any.
+abbrev pub higher : ℕ → List ℕ
+higher n = if ltb n 10 then [] else decimal (n / 10)
 
--- A number's decimal is put: its one digit, or its last digit behind the others.
-pub put_small : (m : List ℕ) (at n d : ℕ) → n < 10 → d ≡ digit n → Put m (set m at d) at (at + 1) (decimal n)
-put_small m at n d h e = rw (decimal_small n h, sym e) (put_one m at d)
+pub decimal_split : (n : ℕ) → decimal n ≡ higher n ++ (digit (n % 10) ∷ [])
+decimal_split n = go (ltb n 10) refl
+  where
+    go : (b : Bool) → ltb n 10 ≡ b → decimal n ≡ (if b then [] else decimal (n / 10)) ++ (digit (n % 10) ∷ [])
+    go true t = let l = ltb-true n 10 t in let e : n % 10 ≡ n = omega arith in rw e (decimal_small n l)
+    go false t = decimal_more n (ltb-false n 10 t)
 
-pub put_more : (m u : List ℕ) (at last n d : ℕ) → 10 ≤ n → Put m u at last (decimal (n / 10)) → d ≡ digit (n % 10) → Put m (set u last d) at (last + 1) (decimal n)
-put_more m u at last n d h p e = rw (decimal_more n h, sym e) (put_on p (put_one u last d))
+pub higher_none : (t : Text) (n : ℕ) → n < 10 → t.length ≤ most_lines → Appended t t (higher n)
+higher_none t n h k = rw (lt-ltb n 10 h) (none t k)
 
--- A word is put byte by byte: where one is written, the others are left to be written behind it.
-module _ (u : List ℕ) (at : ℕ) (word : List ℕ) where
-  pub word_start : write u (at + 0) (drop 0 word) ≡ write u at word
-  word_start = let e : at + 0 ≡ at = omega arith in ap (λ (j : ℕ). write u j word) e
+pub higher_some : {t u : Text} (n : ℕ) → 10 ≤ n → Appended t u (decimal (n / 10)) → Appended t u (higher n)
+higher_some n h p = rw (le-ltb n 10 h) p
 
-  pub word_next : (i : ℕ) → i < length word → write (set u (at + i) (get_or word i 0)) (at + (i + 1)) (drop (i + 1) word) ≡ write u (at + i) (drop i word)
-  unfolding write
-  word_next i l =
-      let e : at + (i + 1) ≡ at + i + 1 = omega arith in
-      let s : i + 1 ≡ suc i = omega arith in
-      ap₂ (λ (j k : ℕ). write (set u (at + i) (get_or word i 0)) j (drop k word)) e s ∙ sym (ap (write u (at + i)) (drop-cons word i 0 l))
+pub higher_room : {t : Text} (n : ℕ) → 10 ≤ n → Room t (decimal n) → Room t (decimal (n / 10))
+higher_room n l h = ahead (decimal (n / 10)) (digit (n % 10) ∷ []) (rw (decimal_more n l) at h)
 
-  pub word_end : (i : ℕ) → length word ≤ i → write u (at + i) (drop i word) ≡ u
-  unfolding write
-  word_end i l = ap (write u (at + i)) (drop_of_length-le word l)
+-- Bytes in hexadecimal and decimals with single spaces are the first, and each other behind a space.
+abbrev pub hexadecimal_behind : ℕ → List ℕ
+hexadecimal_behind b = space ∷ hexadecimal (b ∷ [])
 
--- Bytes in hexadecimal, with one more byte at the end, and how many digits and spaces they take.
-pub hexadecimal_more : (xs : List ℕ) (b : ℕ) → 0 < length xs → hexadecimal (xs ++ (b ∷ [])) ≡ hexadecimal xs ++ (space ∷ hexadecimal (b ∷ []))
+pub hexadecimal_each : (b : ℕ) (rest : List ℕ) → hexadecimal (b ∷ rest) ≡ hexadecimal (b ∷ []) ++ flat_map hexadecimal_behind rest
+unfolding hexadecimal flat_map
+hexadecimal_each b [] = refl
+hexadecimal_each b (c ∷ rest) = ap (λ (zs : List ℕ). digit (b / 16) ∷ digit (b % 16) ∷ space ∷ zs) (hexadecimal_each c rest)
+
+pub spaced_each : (n : ℕ) (rest : List ℕ) → spaced (n ∷ rest) ≡ decimal n ++ flat_map behind_space rest
+unfolding spaced flat_map
+spaced_each n [] = sym (append-nil (decimal n))
+spaced_each n (m ∷ rest) = ap (λ (zs : List ℕ). decimal n ++ (space ∷ zs)) (spaced_each m rest)
+
+-- The same by the parts of a slice that isn't empty.
+behind_first : (x : ℕ) (rest : List ℕ) → take (length (x ∷ rest) - 1) (drop 1 (x ∷ rest)) ≡ rest
+behind_first x rest = take_all (length (x ∷ rest) - 1) rest (omega arith)
+
+pub hexadecimal_parts : (xs : List ℕ) → 1 ≤ length xs → hexadecimal xs ≡ hexadecimal (get_or xs 0 0 ∷ []) ++ flat_map hexadecimal_behind (take (length xs - 1) (drop 1 xs))
+hexadecimal_parts [] h = absurd (omega arith)
+hexadecimal_parts (b ∷ rest) h = rw (behind_first b rest) (hexadecimal_each b rest)
+
+pub spaced_parts : (xs : List ℕ) → 1 ≤ length xs → spaced xs ≡ decimal (get_or xs 0 0) ++ flat_map behind_space (take (length xs - 1) (drop 1 xs))
+spaced_parts [] h = absurd (omega arith)
+spaced_parts (n ∷ rest) h = rw (behind_first n rest) (spaced_each n rest)
+
+-- Of no bytes and of no numbers there is nothing to write.
+pub hexadecimal_none : (t : Text) (xs : List ℕ) → length xs < 1 → Room t (hexadecimal xs) → Appended t t (hexadecimal xs)
 unfolding hexadecimal
-hexadecimal_more [] b h = absurd (omega arith)
-hexadecimal_more (x ∷ []) b h = refl
-hexadecimal_more (x ∷ y ∷ xs) b h = ap (λ (zs : List ℕ). digit (x / 16) ∷ digit (x % 16) ∷ space ∷ zs) (hexadecimal_more (y ∷ xs) b (omega arith))
+hexadecimal_none t [] h k = none t (omega (arith, k.fits))
+hexadecimal_none t (x ∷ xs) h k = absurd (omega arith)
 
-pub hexadecimal_length : (xs : List ℕ) → 0 < length xs → length (hexadecimal xs) + 1 ≡ 3 * length xs
+pub spaced_none : (t : Text) (xs : List ℕ) → length xs < 1 → Room t (spaced xs) → Appended t t (spaced xs)
+unfolding spaced
+spaced_none t [] h k = none t (omega (arith, k.fits))
+spaced_none t (x ∷ xs) h k = absurd (omega arith)
+
+-- How long they are.
+hexadecimal_length : (xs : List ℕ) → 0 < length xs → length (hexadecimal xs) + 1 ≡ 3 * length xs
 unfolding hexadecimal
 hexadecimal_length [] h = absurd (omega arith)
 hexadecimal_length (x ∷ []) h = refl
 hexadecimal_length (x ∷ y ∷ xs) h = omega (arith, hexadecimal_length (y ∷ xs) (omega arith))
 
--- A byte's two digits.
-pub put_digits : (m : List ℕ) (at b high low : ℕ) → high ≡ digit (b / 16) → low ≡ digit (b % 16) → set (set m at high) (at + 1) low ≡ write m at (hexadecimal (b ∷ []))
-unfolding write hexadecimal
-put_digits m at b high low e f = rw (e, f)
+pub trace_length : (k : ℕ) (trace : List ℕ) → 0 < k → k ≤ length trace → length (hexadecimal (take k trace)) + 1 ≡ 3 * k
+trace_length k trace h l = let n = length-take-le k trace l in omega (arith, n, hexadecimal_length (take k trace) (omega (arith, n)))
 
--- Decimals with single spaces, with one more number at the end.
-pub spaced_more : (xs : List ℕ) (n : ℕ) → 0 < length xs → spaced (xs ++ (n ∷ [])) ≡ spaced xs ++ (space ∷ spaced (n ∷ []))
+spaced_length : (xs : List ℕ) → ((i : ℕ) → get_or xs i 0 < 18446744073709551616) → length (spaced xs) ≤ 21 * length xs
 unfolding spaced
-spaced_more [] n h = absurd (omega arith)
-spaced_more (x ∷ []) n h = refl
-spaced_more (x ∷ y ∷ xs) n h =
-    ap (λ (zs : List ℕ). decimal x ++ (space ∷ zs)) (spaced_more (y ∷ xs) n (omega arith)) ∙ sym (append_assoc (decimal x) (space ∷ spaced (y ∷ xs)) (space ∷ decimal n))
+spaced_length [] h = omega arith
+spaced_length (x ∷ []) h = omega (arith, decimal_most x (h 0))
+spaced_length (x ∷ y ∷ xs) h = omega (arith, decimal_most x (h 0), spaced_length (y ∷ xs) (λ i. h (suc i)), length-append (decimal x) (space ∷ spaced (y ∷ xs)))
 
--- Items that are shown with single spaces are put: the first, and one more behind a space.
-module _ (shown : List ℕ → List ℕ) (more : (xs : List ℕ) (x : ℕ) → 0 < length xs → shown (xs ++ (x ∷ [])) ≡ shown xs ++ (space ∷ shown (x ∷ []))) where
-  module _ (items m u : List ℕ) (at p : ℕ) where
-    pub items_first : 0 < length items → Put m u at p (shown (get_or items 0 0 ∷ [])) → Put m u at p (shown (take 1 items))
-    items_first l h = rw (take-suc items 0 0 l) h
+pub invalid_length : (c l : ℕ) (shown : List ℕ) → length (printed_for (gives (invalid c l)) shown) ≡ 11 + length (decimal c) + length (decimal l) + length (hexadecimal shown)
+unfolding printed_for
+invalid_length c l shown = omega (
+  arith,
+  length-append (decimal c) (behind_space l),
+  length-append (decimal c ++ behind_space l) end_line,
+  length-append (decimal c ++ behind_space l ++ end_line) (hexadecimal shown),
+  length-append (decimal c ++ behind_space l ++ end_line ++ hexadecimal shown) end_line,
+)
 
-    pub items_next : (v : List ℕ) (q i : ℕ) → 0 < i → i < length items → Put m u at p (shown (take i items))
-        → Put (set u p space) v (p + 1) q (shown (get_or items i 0 ∷ [])) → Put m v at q (shown (take (i + 1) items))
-    items_next v q i some l h k =
-        let s : i + 1 ≡ suc i = omega arith in
-        let e = ap (λ (j : ℕ). shown (take j items)) s ∙ ap shown (take-suc items i 0 l) ∙ more (take i items) (get_or items i 0) (omega (arith, length-take-le i items (omega arith))) in
-        subst (λ (bytes : List ℕ). Put m v at q bytes) (sym e) (put_on h (put_on (put_one u p space) k))
+-- There is room for a line, and for those of "invalid" with its trace, in a text that is empty.
+pub line_room : (t : Text) (word : List ℕ) (n : ℕ) → t.length ≡ 0 → length word ≤ 7 → n < 18446744073709551616 → Room t (word ++ behind_space n ++ end_line)
+line_room t word n e w h = record { fits = omega (arith, length-append word (behind_space n), length-append (word ++ behind_space n) end_line, decimal_most n h) }
 
--- So are the bytes of a trace.
-module _ (trace m u : List ℕ) (at : ℕ) where
-  pub trace_first : 0 < length trace → u ≡ write m at (hexadecimal (get_or trace 0 0 ∷ [])) → Put m u at (at + 2) (hexadecimal (take 1 trace))
-  unfolding hexadecimal
-  trace_first l e = items_first hexadecimal hexadecimal_more trace m u at (at + 2) l (record { place = refl; written = e })
+pub invalid_room : (t : Text) (c l : ℕ) (trace : List ℕ) → t.length ≡ 0 → c < 18446744073709551616 → l ≤ 64 → 1 + 2 * l ≤ length trace
+    → Room t (printed_for (gives (invalid c l)) (take (1 + 2 * l) trace))
+invalid_room t c l trace e h k m =
+    record { fits = omega (arith, invalid_length c l (take (1 + 2 * l) trace), decimal_most c h, decimal_most l (omega arith), trace_length (1 + 2 * l) trace (omega arith) m) }
 
-  pub trace_next : (v : List ℕ) (p i : ℕ) → 0 < i → i < length trace → Put m u at p (hexadecimal (take i trace))
-      → v ≡ write (set u p space) (p + 1) (hexadecimal (get_or trace i 0 ∷ [])) → Put m v at (p + 3) (hexadecimal (take (i + 1) trace))
-  trace_next v p i some l h e =
-      let d = hexadecimal_length (get_or trace i 0 ∷ []) (omega arith) in
-      items_next hexadecimal hexadecimal_more trace m u at p v (p + 3) i some l h (record { place = omega (arith, d); written = e })
+-- A word is its bytes, one behind the other.
+pub word_each : (word : List ℕ) → flat_map (λ (b : ℕ). b ∷ []) word ≡ word
+unfolding flat_map
+word_each [] = refl
+word_each (b ∷ word) = ap (λ (bytes : List ℕ). b ∷ bytes) (word_each word)
 
--- And the numbers of a line.
-module _ (numbers m u : List ℕ) (p : ℕ) where
-  pub number_first : 0 < length numbers → Put m u 0 p (decimal (get_or numbers 0 0)) → Put m u 0 p (spaced (take 1 numbers))
-  unfolding spaced
-  number_first l h = items_first spaced spaced_more numbers m u 0 p l h
+-- There is room for six numbers of 64 bits in a text that is empty, and for their line's end.
+module _ (numbers : List ℕ) (few : length numbers ≤ 6) (small : (i : ℕ) → get_or numbers i 0 < 18446744073709551616) {t : Text} (begun : t.length ≡ 0) where
+  pub numbers_room : Room t (spaced numbers)
+  numbers_room = record { fits = omega (arith, spaced_length numbers small) }
 
-  pub number_next : (v : List ℕ) (q i : ℕ) → 0 < i → i < length numbers → Put m u 0 p (spaced (take i numbers))
-      → Put (set u p space) v (p + 1) q (decimal (get_or numbers i 0)) → Put m v 0 q (spaced (take (i + 1) numbers))
-  unfolding spaced
-  number_next v q i some l h k = items_next spaced spaced_more numbers m u 0 p v q i some l h k
+  pub end_room : {u : Text} (b : ℕ) → Appended t u (spaced numbers) → Room u (b ∷ [])
+  end_room b p = record { fits = omega (arith, p.longer, spaced_length numbers small) }
 
-  -- The line is put once all of them are, and its end.
-  pub numbers_line_law : (i : ℕ) → length numbers ≤ i → Put m u 0 p (spaced (take i numbers)) → (p + 1 ≡ length (numbers_line numbers)) × (set u p line_feed ≡ write m 0 (numbers_line numbers))
-  unfolding numbers_line
-  numbers_line_law i l h =
-      let k = put_on (subst (λ (ns : List ℕ). Put m u 0 p (spaced ns)) (take_all i numbers l) h) (put_one u p line_feed) in
-      (omega (arith, k.place), k.written)
-
--- Where the first line of a verdict "invalid" ends, behind its second number.
-pub line_end : (u v : List ℕ) (p l q : ℕ) → p ≤ 18 → l ≤ 64 → Put u v (p + 1) q (decimal l) → q ≤ 29
-line_end u v p l q a b h = omega (arith, h.place, decimal_most l (omega arith))
-
--- A word and a number behind a space are put, a line's end behind them, and the lines of "invalid" with its trace.
-module _ (m u : List ℕ) (p : ℕ) where
-  pub put_behind : (v word : List ℕ) (n r : ℕ) → length word ≤ 7 → n < 4294967296 → Put m u 0 p word → Put (set u p space) v (p + 1) r (decimal n)
-      → Put m v 0 r (behind_word word n) × (r ≤ 18)
-  unfolding behind_word
-  put_behind v word n r l k h i = (put_on h (put_on (put_one u p space) i), omega (arith, h.place, i.place, decimal_most n k))
-
-  pub put_ended : (xs : List ℕ) → Put m u 0 p xs → Put m (set u p line_feed) 0 (p + 1) (xs ++ end_line)
-  put_ended xs h = put_on h (put_one u p line_feed)
-
-  pub put_invalid : (v w trace : List ℕ) (c l q e : ℕ) → p ≤ 18 → l ≤ 64 → e < q + 1 + 3 * (1 + 2 * l) → Put m u 0 p (behind_word invalid_word c)
-      → Put (set u p space) v (p + 1) q (decimal l) → Put (set v q line_feed) w (q + 1) e (hexadecimal (take (1 + 2 * l) trace))
-      → Put m (set w e line_feed) 0 (e + 1) (printed_for (gives (invalid c l)) (take (1 + 2 * l) trace)) × (e + 1 ≤ most_lines)
-  unfolding behind_word printed_for
-  put_invalid v w trace c l q e a b d h i j = (
-    put_on (put_on (put_on (put_on h (put_on (put_one u p space) i)) (put_one v q line_feed)) j) (put_one w e line_feed),
-    omega (arith, line_end (set u p space) v p l q a b i),
-  )
-
--- The bytes put are those of the verdict's lines.
-pub put_verdict : (m u trace : List ℕ) (r : ℕ) (v w : Verdict) → v ≡ w → Put m u 0 r (printed_for (answer_of w) (shown_in (answer_of w) trace)) → r ≤ most_lines
-    → Put m u 0 r (printed_for (answer_of v) (shown_in (answer_of v) trace)) × (r ≤ most_lines)
-put_verdict m u trace r v w e h l = rw e (h, l)
-
--- The line of a short memory, and that of a refusal, by its number.
-pub put_short : (m u trace : List ℕ) (r k : ℕ) (v : Verdict) → v ≡ Verdict.ShortMemory → k ≡ number_for (answer_of v) → Put m u 0 r (behind_word refused_word k ++ end_line)
-    → Put m u 0 r (printed_for (answer_of Verdict.ShortMemory) (shown_in (answer_of Verdict.ShortMemory) trace))
-unfolding behind_word printed_for answer_of number_for
-put_short m u trace r k v s e h = subst (λ (j : ℕ). Put m u 0 r (behind_word refused_word j ++ end_line)) (e ∙ ap (λ (w : Verdict). number_for (answer_of w)) s) h
-
-pub put_refused : (m u trace : List ℕ) (r k : ℕ) (x : Refusal) → k ≡ number_of x → Put m u 0 r (behind_word refused_word k ++ end_line)
-    → Put m u 0 r (printed_for (answer_of (Verdict.Refused x)) (shown_in (answer_of (Verdict.Refused x)) trace))
-unfolding behind_word printed_for answer_of
-put_refused m u trace r k x e h = subst (λ (j : ℕ). Put m u 0 r (behind_word refused_word j ++ end_line)) e h
+-- The line of numbers.
+pub line_written : (out numbers : List ℕ) (u v : Text) → Appended (record { bytes = out; length = 0 }) u (spaced numbers) → Appended u v end_line
+    → (v.length ≡ length (numbers_line numbers)) × (v.bytes ≡ write out 0 (numbers_line numbers)) × (v.length ≤ most_lines)
+unfolding numbers_line
+line_written out numbers u v p q = let r = on p q in (omega (arith, r.longer), r.written, r.within)
 
 -- What is shown of a verdict "invalid".
-pub printable_invalid : (v : Verdict) (c l : ℕ) → v ≡ Verdict.Invalid c l → Printable v → l ≤ 64
+pub printable_invalid : (v : Result Verdict VerifyError) (c l : ℕ) → v ≡ Ok (Verdict.Invalid c l) → Printable v → l ≤ 64
 unfolding Printable
 printable_invalid v c l e h = rw e at h
+
+-- What was written are the lines of the verdict: of the one that it is, and of a refusal by its number.
+module _ {t u : Text} (trace : List ℕ) where
+  pub lines_of : (v w : Result Verdict VerifyError) → v ≡ w → Appended t u (printed_for (answer_of w) (shown_in (answer_of w) trace)) → Appended t u (printed_for (answer_of v) (shown_in (answer_of v) trace))
+  lines_of v w e h = rw e h
+
+  pub refused_lines : (k : ℕ) (x : VerifyError) → k ≡ number_for (answer_of (Err x)) → Appended t u (refused_word ++ behind_space k ++ end_line)
+      → Appended t u (printed_for (answer_of (Err x)) (shown_in (answer_of (Err x)) trace))
+  unfolding printed_for answer_of number_for shown_in
+  refused_lines k x e h = go x (subst (λ (j : ℕ). Appended t u (refused_word ++ behind_space j ++ end_line)) e h)
+    where
+      go : (x : VerifyError) → Appended t u (refused_word ++ behind_space (number_for (answer_of (Err x))) ++ end_line)
+          → Appended t u (printed_for (answer_of (Err x)) (shown_in (answer_of (Err x)) trace))
+      go VerifyError.ShortMemory h = h
+      go (VerifyError.Refused r) h = h
 
 -- Behind the first number the others are written behind the first place.
 write_behind : (x : ℕ) (xs : List ℕ) (i : ℕ) (ys : List ℕ) → write (x ∷ xs) (suc i) ys ≡ x ∷ write xs i ys

@@ -3,7 +3,6 @@
 use mathlib.Core.Bool.{true}
 use prog.Linked.{World, Tree, Holds, in_world}
 use prog.LinkedThreads.{HasT}
-use Rattle.reader.proofs.Linking as reader
 use Rattle.verifier.proofs.Linking as verifier
 use Rattle.printing.proofs.TheLink as link
 use Rattle.printing.proofs.print.Symbol as print-symbol
@@ -14,11 +13,11 @@ table = link.table
 
 -- The tables that a program needs.
 abbrev pub Needs : World → Type 0
-Needs W = Holds W "printing" table × reader.Needs W × verifier.Needs W
+Needs W = Holds W "printing" table × verifier.Needs W
 
 module _ (W : World) (needs : Needs W) where
   below : link.Below W
-  below = (reader.number_has W needs.1, (verifier.number_has W needs.2, (verifier.verify_has W needs.2, tt)))
+  below = (verifier.number_has W needs.1, (verifier.verify_has W needs.1, tt))
 
   pub print_has : HasT (in_world W) true print-symbol.code
   print_has = link.linked-printing::print W needs.0 below

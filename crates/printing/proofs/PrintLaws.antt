@@ -8,24 +8,23 @@ use Rattle.format.specs.Syntax.{Sheet}
 use Rattle.format.specs.Format.{Answer, gives, refused, on_accepted, reading}
 use Rattle.semantics.specs.Verdict.{Verdict as Meant, valid, invalid, stopped, outcome, outcome_of, verdict_of, shown_by, written, Verified, LongEnough, verified}
 use Rattle.semantics.specs.Printing.{printed_for, printed}
-use Rattle.semantics.proofs.MemoryLaws.{verified_accepted, verified_refused, begins, memory_length, invalid_short}
+use Rattle.semantics.proofs.MemoryLaws.{verified_accepted, verified_refused, begins, invalid_short}
 use Rattle.lists.specs.Lists.{write}
+use Rattle.std.specs.Prelude.{Result, Ok, Err}
 use Rattle.verifier.specs.declared.verdict.Verdict.{Verdict}
+use Rattle.verifier.specs.declared.verdict.VerifyError.{VerifyError}
 use Rattle.verifier.specs.Answers.{answer_of}
-use Rattle.printing.specs.Lines.{Put, shown_in, Printable}
+use Rattle.printing.specs.declared.text.Text.{Text}
+use Rattle.printing.specs.Lines.{Appended, shown_in, Printable}
 
 module _ (bytes : List ℕ) (budget : ℕ) (old : List ℕ) where
   -- A verdict on a sheet shows at most 64 actions.
-  pub verdict_printable : (r : Verdict) → answer_of r ≡ (verified bytes budget old).answer → Printable r
+  pub verdict_printable : (r : Result Verdict VerifyError) → answer_of r ≡ (verified bytes budget old).answer → Printable r
   unfolding answer_of Printable
-  verdict_printable (Verdict.Valid c) e = tt
-  verdict_printable (Verdict.Invalid c l) e = invalid_short bytes budget old c l (sym e)
-  verdict_printable (Verdict.Stopped b) e = tt
-  verdict_printable Verdict.ShortMemory e = tt
-  verdict_printable (Verdict.Refused r) e = tt
-
-  pub trace_long : (memory : List ℕ) → memory ≡ (verified bytes budget old).memory → length memory ≡ length old
-  trace_long memory e = ap length e ∙ memory_length bytes budget old
+  verdict_printable (Ok (Verdict.Valid c)) e = tt
+  verdict_printable (Ok (Verdict.Invalid c l)) e = invalid_short bytes budget old c l (sym e)
+  verdict_printable (Ok (Verdict.Stopped b)) e = tt
+  verdict_printable (Err error) e = tt
 
 -- Only "invalid" prints a trace: 1 + 2L bytes of a memory, if they are the trace that is shown.
 in_memory : (v : Meant) (shown memory : List ℕ) → ((c l : ℕ) → v ≡ invalid c l → take (1 + 2 * l) memory ≡ shown)
@@ -52,9 +51,10 @@ module _ (bytes old : List ℕ) (enough : LongEnough old) where
           ∙ in_memory (outcome sheet 1_000_000).verdict (outcome sheet 1_000_000).shown (written (outcome sheet 1_000_000).shown old) (λ c l k. begins bytes sheet e 1_000_000 c l k old)
 
   -- So it is of the code's verdict and memory.
-  module _ (r : Verdict) (memory : List ℕ) (answered : answer_of r ≡ (verified bytes 1_000_000 old).answer) (kept : memory ≡ (verified bytes 1_000_000 old).memory) where
+  module _ (r : Result Verdict VerifyError) (memory : List ℕ) (answered : answer_of r ≡ (verified bytes 1_000_000 old).answer) (kept : memory ≡ (verified bytes 1_000_000 old).memory) where
     prints : printed_for (answer_of r) (shown_in (answer_of r) memory) ≡ printed bytes
     prints = ap₂ (λ (a : Answer Meant) (m : List ℕ). printed_for a (shown_in a m)) answered kept ∙ said_printed
 
-    pub lines_printed : (out out' : List ℕ) (n : ℕ) → Put out out' 0 n (printed_for (answer_of r) (shown_in (answer_of r) memory)) → (n ≡ length (printed bytes)) × (out' ≡ write out 0 (printed bytes))
-    lines_printed out out' n p = (omega (arith, p.place, ap length prints), p.written ∙ ap (write out 0) prints)
+    pub lines_printed : (out : List ℕ) (text : Text) → Appended (record { bytes = out; length = 0 }) text (printed_for (answer_of r) (shown_in (answer_of r) memory))
+        → (text.length ≡ length (printed bytes)) × (text.bytes ≡ write out 0 (printed bytes))
+    lines_printed out text p = (omega (arith, p.longer, ap length prints), p.written ∙ ap (write out 0) prints)

@@ -1,20 +1,22 @@
 -- The method: what the parts of `print` and `print_figures` write, for the contracts of inner functions. An auditor of the promises needs none of it.
-use Rattle.std.specs.Prelude.{ℕ, ◌+◌, ◌*◌, ◌≤◌, ◌≡◌, List, [], ◌++◌, length, take}
+use Rattle.std.specs.Prelude.{ℕ, ◌+◌, ◌*◌, ◌≤◌, ◌≡◌, List, [], length, take, Result, Ok, Err}
 use Rattle.format.specs.Format.{Answer, gives, refused, most_acts}
 use Rattle.semantics.specs.Verdict.{Verdict as Meant, valid, invalid, stopped}
-use Rattle.semantics.specs.Printing.{decimal, behind_space}
+use Rattle.semantics.specs.Printing.{most_lines}
 use Rattle.lists.specs.Lists.{write}
 use Rattle.verifier.specs.declared.verdict.Verdict.{Verdict}
+use Rattle.verifier.specs.declared.verdict.VerifyError.{VerifyError}
+use Rattle.printing.specs.declared.text.Text.{Text}
 
--- Bytes are written from a place on, and `behind` is the place behind them.
-pub record Put (before after : List ℕ) (at behind : ℕ) (bytes : List ℕ) : Type 0 where
-  pub place : behind ≡ at + length bytes
-  pub written : after ≡ write before at bytes
+-- There is room for bytes behind a text.
+pub record Room (text : Text) (bytes : List ℕ) : Type 0 where
+  pub fits : text.length + length bytes ≤ most_lines
 
--- A word, a space and a number.
-unfoldable pub behind_word : (word : List ℕ) (n : ℕ) → List ℕ
-unfolding decimal
-behind_word word n = word ++ behind_space n
+-- Bytes are written behind a text, and nothing else is; it still lies within its memory.
+pub record Appended (before after : Text) (bytes : List ℕ) : Type 0 where
+  pub longer : after.length ≡ before.length + length bytes
+  pub written : after.bytes ≡ write before.bytes before.length bytes
+  pub within : after.length ≤ most_lines
 
 -- The trace that an answer shows, out of the trace memory after the call: "1 + 2L bytes".
 unfoldable pub shown_in : Answer Meant → (memory : List ℕ) → List ℕ
@@ -23,10 +25,9 @@ shown_in (gives (invalid c l)) memory = take (1 + 2 * l) memory
 shown_in (gives (stopped b)) memory = []
 shown_in (refused r) memory = []
 
--- A verdict whose trace, if it has one, is of at most 64 actions.
-unfoldable pub Printable : Verdict → Type 0
-Printable (Verdict.Valid c) = Unit {0}
-Printable (Verdict.Invalid c l) = l ≤ most_acts
-Printable (Verdict.Stopped b) = Unit {0}
-Printable Verdict.ShortMemory = Unit {0}
-Printable (Verdict.Refused r) = Unit {0}
+-- An answer whose trace, if it has one, is of at most 64 actions.
+unfoldable pub Printable : Result Verdict VerifyError → Type 0
+Printable (Ok (Verdict.Valid c)) = Unit {0}
+Printable (Ok (Verdict.Invalid c l)) = l ≤ most_acts
+Printable (Ok (Verdict.Stopped b)) = Unit {0}
+Printable (Err error) = Unit {0}

@@ -8,6 +8,7 @@ use Rattle.states.proofs.Linking as states
 use Rattle.progression.proofs.TheLink as link
 use Rattle.progression.proofs.effect.Symbol as effect-symbol
 use Rattle.progression.proofs.known.Symbol as known-symbol
+use Rattle.progression.proofs.lesser.Symbol as lesser-symbol
 use Rattle.progression.proofs.pass.Symbol as pass-symbol
 use Rattle.progression.proofs.position.Symbol as position-symbol
 use Rattle.progression.proofs.settle.Symbol as settle-symbol
@@ -29,6 +30,9 @@ module _ (W : World) (needs : Needs W) where
 
   pub known_has : HasT (in_world W) true known-symbol.code
   known_has = link.linked-progression::place::known W needs.0 below
+
+  pub lesser_has : HasT (in_world W) true lesser-symbol.code
+  lesser_has = link.linked-progression::place::lesser W needs.0 below
 
   pub pass_has : HasT (in_world W) true pass-symbol.code
   pass_has = link.linked-progression::reply::pass W needs.0 below

@@ -5,6 +5,6 @@ mod place;
 mod reply;
 mod steps;
 
-pub use place::{Place, known, position, settle};
+pub use place::{Place, known, lesser, position, settle};
 pub use reply::{Passed, pass};
 pub use steps::{effect, step};

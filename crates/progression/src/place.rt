@@ -33,14 +33,11 @@ fn atom_holds(
     known(sets, k, States::of_words(words)) == positive
 }
 
-// The lesser of two numbers.
-fn lesser(a: usize, b: usize) -> usize
+// The lesser of two numbers. (`min` of std is a function whose code is shut, and the closed theorem needs the code.)
+pub fn lesser(a: usize, b: usize) -> usize
     ensures { result ≡ min a b }
 {
-    if a < b {
-        return a;
-    }
-    b
+    if a < b { a } else { b }
 }
 
 // Whether all parts hold that stand from node `at` on before node `end`, where the states of a set are possible, whose words
@@ -65,22 +62,23 @@ fn all_hold(
         return false;
     }
     let mut i = at;
+    // (No range: behind a part i goes on by as many nodes as the part takes.)
     while i < end {
         match node_at(nodes, i) {
             Node::Atom(positive, k) => {
                 if !atom_holds(sets, &own, positive, k) {
                     return false;
                 }
-                i = i + 1;
+                i += 1;
             }
             Node::Join(all, size) => {
-                i = i + 1;
+                i += 1;
                 if !all {
                     let stop = lesser(i + size, end);
                     if !one_holds(nodes, sets, words, i, stop, left - 1) {
                         return false;
                     }
-                    i = i + size;
+                    i += size;
                 }
             }
             _ => {
@@ -109,22 +107,23 @@ fn one_holds(
         return false;
     }
     let mut i = at;
+    // (No range: behind a part i goes on by as many nodes as the part takes.)
     while i < end {
         match node_at(nodes, i) {
             Node::Atom(positive, k) => {
                 if atom_holds(sets, words, positive, k) {
                     return true;
                 }
-                i = i + 1;
+                i += 1;
             }
             Node::Join(all, size) => {
-                i = i + 1;
+                i += 1;
                 if all {
                     let stop = lesser(i + size, end);
                     if all_hold(nodes, sets, words, i, stop, left - 1) {
                         return true;
                     }
-                    i = i + size;
+                    i += size;
                 }
             }
             _ => {
@@ -164,11 +163,12 @@ pub fn settle(nodes: &[u16; NODE_CELLS], sets: &[u64; SET_WORDS], set: States, a
 {
     let words = set.words();
     let mut i = at;
+    // (No range: i goes on behind what a jump or a branch leaves out.)
     while i < NODES {
         let node = node_at(nodes, i);
         match node {
-            Node::Act(a, number) => {
-                return Place::Act(i, a);
+            Node::Act(action, _) => {
+                return Place::Act(i, action);
             }
             Node::Jump(skip) => {
                 i = i + 1 + skip;
@@ -197,12 +197,10 @@ pub fn settle(nodes: &[u16; NODE_CELLS], sets: &[u64; SET_WORDS], set: States, a
 fn end_number(nodes: &[u16; NODE_CELLS]) -> usize
     ensures { result ≡ end_number nodes.now }
 {
-    let mut i = 0;
-    while i < NODES {
+    for i in 0..NODES {
         if let Node::End(count) = node_at(nodes, i) {
             return count;
         }
-        i = i + 1;
     }
     0
 }
@@ -212,9 +210,9 @@ pub fn position(nodes: &[u16; NODE_CELLS], place: Place) -> usize
     ensures { result ≡ position_at nodes.now place }
 {
     match place {
-        Place::End(holds) => end_number(nodes),
-        Place::Act(node, action) => match node_at(nodes, node) {
-            Node::Act(a, number) => number,
+        Place::End(_) => end_number(nodes),
+        Place::Act(node, _) => match node_at(nodes, node) {
+            Node::Act(_, number) => number,
             _ => 0,
         },
     }

@@ -9,7 +9,8 @@ use crate::steps::reply_states;
 use routine::{HEAD_CELLS, SET_WORDS};
 use states::States;
 
-// The states that are kept; whether there is one; and how often the reply was evaluated.
+// The states that are kept; whether there is one; and how often the reply was evaluated. (`possible` follows from the states
+// that are kept, but the contract of `recovery_pass` names it.)
 #[derive(Clone, Copy)]
 pub struct Passed {
     pub kept: States,
@@ -23,7 +24,7 @@ fn evaluate(reply: u64, b: u32, evaluations: &mut u64) -> bool
     requires { (b < 64) × (evaluations.old < 256) }
     ensures { (result ≡ bit reply b) × (evaluations.new ≡ evaluations.old + 1) }
 {
-    *evaluations = *evaluations + 1;
+    *evaluations += 1;
     (reply >> b) % 2 == 1
 }
 
@@ -39,9 +40,9 @@ fn pass_word(states: u64, reply: u64, evaluations: &mut u64) -> u64
         let b = u64::trailing_zeros(left);
         let holds = evaluate(reply, b, evaluations);
         if holds {
-            kept = kept | (1u64 << b);
+            kept |= 1u64 << b;
         }
-        left = left & (left - 1);
+        left &= left - 1;
     }
     kept
 }
@@ -58,9 +59,9 @@ fn pass_over(set: States, reply: States) -> Passed
         w3: pass_word(set.w3, reply.w3, &mut evaluations),
     };
     Passed {
-        kept: kept,
+        kept,
         possible: !kept.is_empty(),
-        evaluations: evaluations,
+        evaluations,
     }
 }
 

@@ -18,7 +18,7 @@ fn gather_word(sets: &[u64; SET_WORDS], first: usize, word: u64) -> States
     while left != 0 {
         let b = u64::trailing_zeros(left) as usize;
         all = all.union(set_at(sets, first + b));
-        left = left & (left - 1);
+        left &= left - 1;
     }
     all
 }

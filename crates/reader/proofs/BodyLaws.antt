@@ -4,6 +4,7 @@ use mathlib.Core.Path.{◌≡◌, refl, sym, ap, ap₂, ◌∙◌}
 use mathlib.Core.List.{List, [], ◌∷◌, flat_map}
 use mathlib.Core.Bool.{Bool, true, false, ◌&&◌}
 use native.Mathlib.Omega.{arith}
+use Rattle.std.specs.Prelude.{Result}
 use lib.Dec.{eqb}
 use lib.ListN.{length}
 use borrow.Author.Tests.{lt-ltb, le-ltb}
@@ -20,11 +21,12 @@ use Rattle.format.proofs.FormatLaws.{Finds, finds_give, finds_behind, behind_got
 use Rattle.format.proofs.ReaderLaws.{mapped_got, mapped_fault, mapped_give}
 use Rattle.format.proofs.SheetLaws.{program_is, reading_refused, header_short, header_limits, reading_body}
 use Rattle.format.proofs.StateLaws.{space_bytes}
-use Rattle.reader.specs.Answers.{without_value, space_set, HeaderKept, spaced, kept_of, states_in}
-use Rattle.reader.specs.Method.{passed_to, ending, counts, header_of, start_states}
+use Rattle.reader.proofs.PackedLaws.{packed_refused}
+use Rattle.reader.specs.Answers.{answer_of, without_value, packed, space_set, HeaderKept, spaced, kept_of, states_in}
+use Rattle.reader.specs.Method.{ending, counts, header_of, start_states}
 use Rattle.reader.specs.declared.layout.Header.{Header as HeaderValue}
+use Rattle.reader.specs.declared.refusal.Refusal.{Refusal}
 use Rattle.reader.specs.declared.formula.View.{View}
-use Rattle.reader.specs.declared.formula.Walked.{Walked}
 
 -- The bits that are left after a position: none, fewer than eight, or more.
 module _ (bytes : List ℕ) (p : ℕ) where
@@ -164,9 +166,9 @@ module _ (h : Header) (few : h.facts ≤ most_facts) (bytes : List ℕ) (p : ℕ
       startless f = rw (padded, has_state, some, has_start_law, f)
 
       -- The tests of the actions decide.
-      pub actions_tested : nonempty (members common) ≡ true → (r : Walked)
-          → ((actions : List Action) (end : ℕ) → action_list h.facts h.actions bytes p ≡ got actions end → passed_to r ≡ decided (flat_map (action_faults (members space)) actions) end)
-          → without_value (passed_to r) ≡ without_value (decided (faults action_faults bytes q sheet) sheet)
+      pub actions_tested : nonempty (members common) ≡ true → (r : Result ℕ Refusal)
+          → ((actions : List Action) (end : ℕ) → action_list h.facts h.actions bytes p ≡ got actions end → answer_of r ≡ decided (flat_map (action_faults (members space)) actions) end)
+          → without_value (answer_of r) ≡ without_value (decided (faults action_faults bytes q sheet) sheet)
       unfolding faults unless
       actions_tested starts r tested =
           let b = (body_read h bytes p).found sheet q read in
@@ -198,9 +200,6 @@ module _ (bytes : List ℕ) where
     unfolding spaced kept_of
     read_space = sym (ap (λ (x : HeaderKept). x.space) found.2) ∙ ap (λ (x : HeaderKept). space_set x.facts constraint) found.2
 
-    pub read_short : length bytes ≤ most_bytes
-    read_short = header_short bytes header_is
-
     pub read_limits : h.facts ≤ most_facts
     unfolding header_of
     read_limits = (header_limits bytes header_is).facts_most
@@ -221,3 +220,8 @@ module _ (bytes : List ℕ) where
         let w = mapped_got start_states (body (header_of h constraint) bytes h.at) (f constraint) in
         g constraint w.0 read_space w.1 (sym w.2)
         ∙ sym (ap without_value (reading_body bytes header_is) ∙ ap (λ (x : Read Sheet). without_value (after_fields action_faults bytes x)) w.1)
+
+-- Bytes that are too many are refused.
+pub long_refused : (bytes : List ℕ) {k : ℕ} → refused k ≡ packed bytes → refused k ≡ without_value (reading bytes)
+unfolding mapped
+long_refused bytes e = sym (no_header bytes (sym (ap (mapped spaced) (packed_refused (header is_edition) bytes 0 e))))

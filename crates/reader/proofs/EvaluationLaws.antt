@@ -1,13 +1,9 @@
--- Laws of the sets that packed objective formulas have: by the tag, from the sets of the parts. Assumes nothing.
-use Prim.Native.Nat.{ℕ, zero, suc, ◌<◌, ◌≤◌}
+-- Laws of the sets that packed objective formulas have: by the first node, from the sets of the parts. Assumes nothing.
+use Prim.Native.Nat.{ℕ, ◌≤◌}
 use mathlib.Core.Path.{◌≡◌, refl, sym, ap, ap₂, ◌∙◌}
 use mathlib.Core.List.{List}
 use mathlib.Core.Bool.{Bool, true, false, not, ◌&&◌, ◌||◌, beq}
-use native.Mathlib.Omega.{arith}
-use lib.Dec.{eqb}
 use lib.ListN.{length}
-use borrow.Author.Tests.{ne_eqb}
-use Rattle.std.specs.Prelude.{if◌then◌else◌}
 use Rattle.states.specs.declared.States.{States}
 use Rattle.states.specs.Sets.{member, set_of}
 use Rattle.states.proofs.SetLaws.{member_set_of, set_cong}
@@ -16,7 +12,9 @@ use Rattle.format.specs.Syntax.{Objective, fact, new_fact, negation, conjunction
 use Rattle.format.specs.Truth.{truth}
 use Rattle.format.specs.Format.{Read, got, fault, Reader, ◌>>=◌, mapped, give, refuse, check, most_bytes, deepest, fact_number, objective_behind, objective, of_sheet}
 use Rattle.reader.specs.Answers.{in_theory, states_in}
-use Rattle.reader.specs.Method.{fact_of}
+use Rattle.reader.specs.Method.{fact_of, tag_of, joins}
+use Rattle.reader.specs.declared.nodes.ObjectiveNode.{ObjectiveNode}
+use Rattle.reader.specs.declared.nodes.Connective.{Connective}
 use Rattle.format.proofs.FormatLaws.{behind_got, behind_fault}
 use Rattle.format.specs.Standing.{ObjectiveAt}
 use Rattle.format.proofs.ReaderLaws.{mapped_got, mapped_fault, mapped_same, mapped_give, sheet_short}
@@ -41,40 +39,42 @@ module _ (from to : ℕ → ℕ) where
       (λ t h. e (from t) (to t) ∙ ap₂ op (sym (member_set_of (λ t. truth f (from t) (to t)) t h)) (sym (member_set_of (λ t. truth g (from t) (to t)) t h)))
 
   module _ (n : ℕ) (theory : Bool) (part : Reader Objective) (bytes : List ℕ) (q : ℕ) where
-    -- The set of what is read behind a tag.
-    abbrev behind : ℕ → Read States
-    behind tag = mapped true_at (objective_behind n theory part tag bytes q)
+    -- The set of what is read behind a first node.
+    abbrev pub behind : ObjectiveNode → Read States
+    behind node = mapped true_at (objective_behind n theory part (tag_of node) bytes q)
 
     -- False and true.
-    pub set_constant : (tag : ℕ) → tag < 2 → behind tag ≡ got (set_of (λ t. eqb tag 1)) q
-    unfolding objective_behind mapped truth
-    set_constant zero h = refl
-    set_constant (suc zero) h = refl
-    set_constant (suc (suc tag)) h = absurd (omega arith)
+    pub set_constant : (value : Bool) → behind (ObjectiveNode.Constant value) ≡ got (set_of (λ t. value)) q
+    unfolding objective_behind mapped truth tag_of
+    set_constant false = refl
+    set_constant true = refl
 
     -- A fact.
-    pub set_fact : (tag : ℕ) → tag ≡ 2 → behind tag ≡ mapped (λ i. true_at (fact_of false i)) (fact_number n bytes q)
-    unfolding objective_behind fact_of
-    set_fact tag e = rw e (mapped_give true_at (fact_number n) fact bytes q)
+    pub set_fact : behind ObjectiveNode.Fact ≡ mapped (λ i. true_at (fact_of false i)) (fact_number n bytes q)
+    unfolding objective_behind fact_of tag_of
+    set_fact = mapped_give true_at (fact_number n) fact bytes q
 
     -- A new fact, in a theory.
-    pub set_new : (tag : ℕ) → tag ≡ 3 → theory ≡ true → behind tag ≡ mapped (λ i. true_at (fact_of true i)) (fact_number n bytes q)
-    unfolding objective_behind check fact_of
-    set_new tag e h = rw (e, h) (mapped_give true_at (fact_number n) new_fact bytes q)
+    pub set_new : theory ≡ true → behind ObjectiveNode.NewFact ≡ mapped (λ i. true_at (fact_of true i)) (fact_number n bytes q)
+    unfolding objective_behind check fact_of tag_of
+    set_new h = rw h (mapped_give true_at (fact_number n) new_fact bytes q)
 
     -- A new fact outside a theory is refused.
-    pub set_outside : (tag : ℕ) → tag ≡ 3 → theory ≡ false → behind tag ≡ fault 7
-    unfolding objective_behind check refuse mapped
-    set_outside tag e h = rw (e, h)
+    pub set_outside : theory ≡ false → behind ObjectiveNode.NewFact ≡ fault 7
+    unfolding objective_behind check refuse mapped tag_of
+    set_outside h = rw h
 
-    -- A negation, from its part's set.
-    pub set_not : (tag : ℕ) → tag ≡ 4 → {a : States} {p : ℕ} → mapped true_at (part bytes q) ≡ got a p → behind tag ≡ got (set_of (λ t. not (member a t))) p
-    unfolding objective_behind mapped
-    set_not tag e {a} {p} h =
+    -- A negation, from its part's set; the refusal of the part stands.
+    pub set_not : {a : States} {p : ℕ} → mapped true_at (part bytes q) ≡ got a p → behind ObjectiveNode.Not ≡ got (set_of (λ t. not (member a t))) p
+    unfolding objective_behind mapped tag_of
+    set_not {a} {p} h =
         let first = mapped_got true_at (part bytes q) h in
-        rw e
-        (mapped_give true_at part negation bytes q ∙ ap (mapped (λ f. true_at (negation f))) first.1
-        ∙ ap (λ (x : States). got x p) (true_not first.0 ∙ ap (λ (x : States). set_of (λ t. not (member x t))) first.2))
+        mapped_give true_at part negation bytes q ∙ ap (mapped (λ f. true_at (negation f))) first.1
+        ∙ ap (λ (x : States). got x p) (true_not first.0 ∙ ap (λ (x : States). set_of (λ t. not (member x t))) first.2)
+
+    pub not_refused : {r : ℕ} → mapped true_at (part bytes q) ≡ fault r → behind ObjectiveNode.Not ≡ fault r
+    unfolding objective_behind mapped tag_of
+    not_refused h = ap (mapped true_at) (behind_fault part (λ f. give (negation f)) bytes q (mapped_fault true_at (part bytes q) h))
 
     -- The reader of a formula of two parts.
     abbrev two : (Objective → Objective → Objective) → Reader Objective
@@ -97,66 +97,44 @@ module _ (from to : ℕ → ℕ) where
         (true_two make op first.0 second.0 (same first.0 second.0)
         ∙ ap₂ (λ (x y : States). set_of (λ t. op (member x t) (member y t))) first.2 second.2)
 
-    -- A conjunction, a disjunction and an equivalence, from their parts' sets.
-    module _ {a b : States} {p e : ℕ} (h : mapped true_at (part bytes q) ≡ got a p) (k : mapped true_at (part bytes p) ≡ got b e) where
-      pub set_and : (tag : ℕ) → tag ≡ 5 → behind tag ≡ got (set_of (λ t. member a t && member b t)) e
-      unfolding objective_behind truth
-      set_and tag l = rw l (two_set conjunction ◌&&◌ (λ f g x y. refl) h k)
+    -- A formula of two parts, from their sets.
+    pub set_two : (connective : Connective) {a b : States} {p e : ℕ} → mapped true_at (part bytes q) ≡ got a p → mapped true_at (part bytes p) ≡ got b e
+        → behind (ObjectiveNode.Two connective) ≡ got (set_of (λ t. joins connective (member a t) (member b t))) e
+    unfolding objective_behind truth tag_of joins
+    set_two Connective.And h k = two_set conjunction ◌&&◌ (λ f g x y. refl) h k
+    set_two Connective.Or h k = two_set disjunction ◌||◌ (λ f g x y. refl) h k
+    set_two Connective.Same h k = two_set equivalence beq (λ f g x y. refl) h k
 
-      pub set_or : (tag : ℕ) → tag ≡ 6 → behind tag ≡ got (set_of (λ t. member a t || member b t)) e
-      unfolding objective_behind truth
-      set_or tag l = rw l (two_set disjunction ◌||◌ (λ f g x y. refl) h k)
-
-      pub set_same : (tag : ℕ) → 6 < tag → behind tag ≡ got (set_of (λ t. beq (member a t) (member b t))) e
-      unfolding objective_behind truth
-      set_same tag l =
-          rw (
-            ne_eqb tag 0 (λ z. omega arith),
-            ne_eqb tag 1 (λ z. omega arith),
-            ne_eqb tag 2 (λ z. omega arith),
-            ne_eqb tag 3 (λ z. omega arith),
-            ne_eqb tag 4 (λ z. omega arith),
-            ne_eqb tag 5 (λ z. omega arith),
-            ne_eqb tag 6 (λ z. omega arith),
-          ) (two_set equivalence beq (λ f g x y. refl) h k)
-
-    -- The refusal of a first part stands.
-    pub first_refused : (tag : ℕ) → 3 < tag → {r : ℕ} → mapped true_at (part bytes q) ≡ fault r → behind tag ≡ fault r
-    unfolding objective_behind mapped
-    first_refused tag l {r} h =
-        rw (ne_eqb tag 0 (λ z. omega arith), ne_eqb tag 1 (λ z. omega arith), ne_eqb tag 2 (λ z. omega arith), ne_eqb tag 3 (λ z. omega arith))
-        (go (eqb tag 4) (eqb tag 5) (eqb tag 6))
+    -- The refusal of its first part stands,
+    pub first_refused : (connective : Connective) {r : ℕ} → mapped true_at (part bytes q) ≡ fault r → behind (ObjectiveNode.Two connective) ≡ fault r
+    unfolding objective_behind mapped tag_of
+    first_refused connective {r} h = go connective
       where
-        none : part bytes q ≡ fault r
-        none = mapped_fault true_at (part bytes q) h
+        none : (make : Objective → Objective → Objective) → mapped true_at (two make bytes q) ≡ fault r
+        none make = ap (mapped true_at) (behind_fault part (λ f. part >>= λ g. give (make f g)) bytes q (mapped_fault true_at (part bytes q) h))
 
-        two_none : (make : Objective → Objective → Objective) → mapped true_at (two make bytes q) ≡ fault r
-        two_none make = ap (mapped true_at) (behind_fault part (λ f. part >>= λ g. give (make f g)) bytes q none)
+        go : (c : Connective) → behind (ObjectiveNode.Two c) ≡ fault r
+        go Connective.And = none conjunction
+        go Connective.Or = none disjunction
+        go Connective.Same = none equivalence
 
-        go : (b4 b5 b6 : Bool) → mapped true_at ((if b4 then (part >>= λ f. give (negation f)) else if b5 then two conjunction else if b6 then two disjunction else two equivalence) bytes q) ≡ fault r
-        go true b5 b6 = ap (mapped true_at) (behind_fault part (λ f. give (negation f)) bytes q none)
-        go false true b6 = two_none conjunction
-        go false false true = two_none disjunction
-        go false false false = two_none equivalence
-
-    -- The refusal of a second part stands.
-    pub second_refused : (tag : ℕ) → 4 < tag → {a : States} {p r : ℕ} → mapped true_at (part bytes q) ≡ got a p → mapped true_at (part bytes p) ≡ fault r → behind tag ≡ fault r
-    unfolding objective_behind mapped
-    second_refused tag l {a} {p} {r} h k =
-        rw (ne_eqb tag 0 (λ z. omega arith), ne_eqb tag 1 (λ z. omega arith), ne_eqb tag 2 (λ z. omega arith), ne_eqb tag 3 (λ z. omega arith), ne_eqb tag 4 (λ z. omega arith))
-        (go (eqb tag 5) (eqb tag 6))
+    -- and that of its second.
+    pub second_refused : (connective : Connective) {a : States} {p r : ℕ} → mapped true_at (part bytes q) ≡ got a p → mapped true_at (part bytes p) ≡ fault r
+        → behind (ObjectiveNode.Two connective) ≡ fault r
+    unfolding objective_behind mapped tag_of
+    second_refused connective {a} {p} {r} h k = go connective
       where
-        two_none : (make : Objective → Objective → Objective) → mapped true_at (two make bytes q) ≡ fault r
-        two_none make =
+        none : (make : Objective → Objective → Objective) → mapped true_at (two make bytes q) ≡ fault r
+        none make =
             let first = mapped_got true_at (part bytes q) h in
             ap (mapped true_at)
             (behind_got part (λ f. part >>= λ g. give (make f g)) bytes q first.1
             ∙ behind_fault part (λ g. give (make first.0 g)) bytes p (mapped_fault true_at (part bytes p) k))
 
-        go : (b5 b6 : Bool) → mapped true_at ((if b5 then two conjunction else if b6 then two disjunction else two equivalence) bytes q) ≡ fault r
-        go true b6 = two_none conjunction
-        go false true = two_none disjunction
-        go false false = two_none equivalence
+        go : (c : Connective) → behind (ObjectiveNode.Two c) ≡ fault r
+        go Connective.And = none conjunction
+        go Connective.Or = none disjunction
+        go Connective.Same = none equivalence
 
 -- The state and the next state at which a view has a formula evaluated for its state t.
 unfoldable pub from_of : View → ℕ → ℕ

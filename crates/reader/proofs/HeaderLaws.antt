@@ -1,21 +1,40 @@
 -- Laws of the header as the code reads it: the states of the constraint as a set, and what is kept of the whole. Assumes nothing.
 use Prim.Native.Nat.{ℕ, ◌<◌, ◌^◌}
-use mathlib.Core.Path.{◌≡◌, sym, ap, ap₂, ◌∙◌}
+use mathlib.Core.Path.{◌≡◌, refl, sym, ap, ap₂, ◌∙◌}
 use mathlib.Core.List.{List}
-use mathlib.Core.Bool.{Bool, false, ◌&&◌}
+use mathlib.Core.Bool.{Bool, true, false, ◌&&◌}
 use lib.Dec.{ltb}
 use borrow.Author.Tests.{eq-eqb, ne_eqb}
+use Rattle.std.specs.Prelude.{if◌then◌else◌}
 use Rattle.lists.proofs.ListLaws.{and_true}
 use Rattle.states.specs.declared.States.{States}
 use Rattle.states.specs.Sets.{member, set_of}
 use Rattle.states.proofs.SetLaws.{member_set_of, set_cong}
 use Rattle.format.specs.Syntax.{Objective, top}
 use Rattle.format.specs.Truth.{in_space, truth, holds}
-use Rattle.format.specs.Format.{Read, got, fault, mapped, deepest, objective, constraint_over, Header}
+use Rattle.format.specs.Format.{Answer, gives, refused, Read, got, fault, mapped, deepest, is_edition, objective, constraint_over, Header}
 use Rattle.format.proofs.FieldLaws.{constraint_stands, constraint_absent}
 use Rattle.format.proofs.ReaderLaws.{mapped_got, mapped_fault}
-use Rattle.reader.specs.Answers.{space_set, spaced, states_in}
+use Rattle.reader.specs.Answers.{edition_taken, space_set, spaced, states_in}
 use Rattle.reader.specs.declared.formula.View.{View}
+
+-- A number that is taken is that of an edition that is read, and one that isn't is refused with 3.
+module _ (number : ℕ) where
+  pub taken_is : {k : ℕ} → gives k ≡ edition_taken number → (k ≡ number) × (is_edition k ≡ true)
+  unfolding edition_taken
+  taken_is {k} e = go (is_edition number) refl e
+    where
+      go : (b : Bool) → is_edition number ≡ b → gives k ≡ (if b then gives number else refused 3) → (k ≡ number) × (is_edition k ≡ true)
+      go true t f = let same : k ≡ number = cc in (same, ap is_edition same ∙ t)
+      go false t f = absurd cc
+
+  pub taken_out : {r : ℕ} → ◌≡◌ {A = Answer ℕ} (refused r) (edition_taken number) → (r ≡ 3) × (is_edition number ≡ false)
+  unfolding edition_taken
+  taken_out {r} e = go (is_edition number) refl e
+    where
+      go : (b : Bool) → is_edition number ≡ b → ◌≡◌ {A = Answer ℕ} (refused r) (if b then gives number else refused 3) → (r ≡ 3) × (is_edition number ≡ false)
+      go true t f = absurd cc
+      go false t f = (cc, t)
 
 -- The states of the constraint at a position.
 module _ (edition n : ℕ) (bytes : List ℕ) (p : ℕ) where

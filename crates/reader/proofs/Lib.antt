@@ -3,6 +3,7 @@ pub mod BitLaws
 pub mod EvaluationLaws
 pub mod EndLaws
 pub mod TestLaws
+pub mod PackedLaws
 pub mod ProgramLaws
 pub mod HeaderLaws
 pub mod BodyLaws

@@ -5,6 +5,7 @@ use mathlib.Core.Logic.{⊎_elim}
 use mathlib.Core.List.{List, [], ◌∷◌, ◌++◌, flat_map, Memᴰ}
 use mathlib.Core.Bool.{Bool, true, false, not, ◌&&◌, ◌||◌}
 use native.Mathlib.Omega.{arith}
+use Rattle.std.specs.Prelude.{Result, Ok, Err}
 use native.Mathlib.Nat.{eq-or-lt_of_le, sub-zero}
 use lib.ListN.{length, get_or}
 use borrow.Author.Tests.{not-true}
@@ -18,12 +19,11 @@ use Rattle.format.specs.Truth.{truth, holds, reply_holds}
 use Rattle.format.specs.Format.{gives, refused, Read, got, fault, mapped, deepest, objective, objectives, changes, probes, kind, theory_over, replies_over, action, action_list, unless, leads_on, has_reply, action_faults, decided}
 use Rattle.format.proofs.ReaderLaws.{mapped_got, mapped_fault, mapped_same, mapped_twice, action_refused, action_change, action_probe, objectives_none, objectives_more, objectives_refused, actions_none, actions_more, actions_refused, actions_split}
 use Rattle.format.proofs.SheetLaws.{change_faults, probe_faults}
-use Rattle.reader.specs.Answers.{number_of, states_in}
-use Rattle.reader.specs.Method.{tested, passed_to, ending, some_holds}
+use Rattle.reader.specs.Answers.{number_of, answer_of, states_in}
+use Rattle.reader.specs.Method.{tested, ending, some_holds}
 use Rattle.reader.proofs.EndLaws.{ends_mapped}
 use Rattle.reader.specs.declared.refusal.Refusal.{Refusal}
 use Rattle.reader.specs.declared.formula.View.{View}
-use Rattle.reader.specs.declared.formula.Walked.{Walked}
 
 -- The states of a set and those in which one of some formulas holds.
 abbrev pub joined_to : States → List Objective → States
@@ -142,8 +142,8 @@ module _ (space : List ℕ) (n : ℕ) (bytes : List ℕ) (actions : List Action)
   left_all p k e = record { rest = actions; read = ap (λ (j : ℕ). action_list n j bytes p) (sub-zero k) ∙ e; decide = refl }
 
   -- The action at p is tested.
-  module _ {p k i : ℕ} (less : i < k) (left : Left space n bytes actions q p (k - i)) (r : Walked)
-      (e : passed_to r ≡ tested (action_faults space) (action n bytes p)) where
+  module _ {p k i : ℕ} (less : i < k) (left : Left space n bytes actions q p (k - i)) (r : Result ℕ Refusal)
+      (e : answer_of r ≡ tested (action_faults space) (action n bytes p)) where
     abbrev split : (a : Action) × (j : ℕ) × (rest : List Action) × (action n bytes p ≡ got a j) × (action_list n (k - (i + 1)) bytes j ≡ got rest q) × (a ∷ rest ≡ left.rest)
     split =
         let l : suc (k - (i + 1)) ≡ k - i = omega arith in
@@ -155,14 +155,14 @@ module _ (space : List ℕ) (n : ℕ) (bytes : List ℕ) (actions : List Action)
     whole : decided (flat_map (action_faults space) (split.0 ∷ split.2)) q ≡ decided (flat_map (action_faults space) actions) q
     whole = ap (λ (x : List Action). decided (flat_map (action_faults space) x) q) split.5 ∙ left.decide
 
-    told : passed_to r ≡ decided faults split.1
+    told : answer_of r ≡ decided faults split.1
     told = e ∙ tested_got (action_faults space) split.3
 
     -- It passes: those behind it are left.
-    pub left_more : {next : ℕ} → r ≡ Walked.To next → Left space n bytes actions q next (k - (i + 1))
-    unfolding passed_to flat_map
+    pub left_more : {next : ℕ} → r ≡ Ok next → Left space n bytes actions q next (k - (i + 1))
+    unfolding answer_of flat_map
     left_more {next} h =
-        let w = passed_none faults split.1 (sym told ∙ ap passed_to h) in
+        let w = passed_none faults split.1 (sym told ∙ ap answer_of h) in
         record {
           rest = split.2;
           read = ap (action_list n (k - (i + 1)) bytes) (sym w.1) ∙ split.4;
@@ -170,9 +170,9 @@ module _ (space : List ℕ) (n : ℕ) (bytes : List ℕ) (actions : List Action)
         }
 
     -- It fails.
-    pub left_fails : {x : Refusal} → r ≡ Walked.Refused x → refused (number_of x) ≡ decided (flat_map (action_faults space) actions) q
-    unfolding passed_to flat_map
-    left_fails h = sym (failed_first faults (flat_map (action_faults space) split.2) split.1 q (sym told ∙ ap passed_to h)) ∙ whole
+    pub left_fails : {x : Refusal} → r ≡ Err x → refused (number_of x) ≡ decided (flat_map (action_faults space) actions) q
+    unfolding answer_of flat_map
+    left_fails h = sym (failed_first faults (flat_map (action_faults space) split.2) split.1 q (sym told ∙ ap answer_of h)) ∙ whole
 
   -- None is left: all passed.
   pub left_none : (p k i : ℕ) → k ≤ i → Left space n bytes actions q p (k - i) → gives p ≡ decided (flat_map (action_faults space) actions) q
@@ -265,9 +265,6 @@ module _ (f : Objective) (space : States) where
   -- Every state of the space before the one to try has a next state in it.
   abbrev pub Tried : (old : ℕ) → Type 0
   Tried old = (s : ℕ) → s < old → member space s ≡ true → exists (λ t. truth f s t) (members space) ≡ true
-
-  pub tried_first : Tried 0
-  tried_first s l m = absurd (omega arith)
 
   tried_more : {old : ℕ} → Tried old → (member space old ≡ true → leads f (members space) old ≡ true) → Tried (old + 1)
   tried_more {old} h now s less m =

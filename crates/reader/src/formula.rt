@@ -1,23 +1,16 @@
 // Objective and epistemic formulas: reading them, and the states in which one holds.
-ghost use Rattle.std.specs.Prelude.{◌≡◌, true, false, ◌≤◌, ◌<◌, length};
-ghost use Rattle.states.specs.Sets.{set_of};
+ghost use Rattle.std.specs.Prelude.{◌≡◌, true, false, ◌<◌};
+ghost use Rattle.states.specs.Sets.{member, set_of};
 ghost use Rattle.format.specs.Truth.{fact_in};
-ghost use Rattle.format.specs.Format.{mapped, most_bytes, most_facts, deepest, fact_number, objective, epistemic, of_sheet};
-ghost use Rattle.reader.specs.Answers.{set_read, in_theory, states_in};
-ghost use Rattle.reader.specs.Method.{end_read, ending, fact_of};
+ghost use Rattle.format.specs.Format.{mapped, most_facts, deepest, fact_number, objective, epistemic, of_sheet};
+ghost use Rattle.reader.specs.Answers.{found, in_theory, states_in};
+ghost use Rattle.reader.specs.Method.{end_read, ending, fact_of, joins};
 
-use crate::bits::{Field, field_at, wide};
-use crate::limits::{BYTES, DEPTH};
-use crate::nodes::{EpistemicNode, epistemic_at};
-use crate::refusal::Refusal;
+use crate::bits::Packed;
+use crate::limits::DEPTH;
+use crate::nodes::{Connective, EpistemicNode, ObjectiveNode};
+use crate::refusal::{Parsed, Refusal};
 use states::States;
-
-// A set of states and the position after what was read, or why it was refused.
-#[derive(Clone, Copy)]
-pub enum Evaluated {
-    Holds(States, usize),
-    Refused(Refusal),
-}
 
 // The states that a formula is evaluated in, all at once.
 #[derive(Clone, Copy)]
@@ -26,13 +19,6 @@ pub enum View {
     States,
     // In a theory: each next state of one state.
     Next(u8),
-}
-
-// The position after what was read, or why it was refused.
-#[derive(Clone, Copy)]
-pub(crate) enum Walked {
-    To(usize),
-    Refused(Refusal),
 }
 
 // The states in which fact i is true.
@@ -85,25 +71,20 @@ fn seen(i: usize, fresh: bool, view: View) -> States
             if fresh {
                 return holding_fact(i);
             }
-            States::uniform((wide(state) >> i) % 2 == 1)
+            States::uniform((state as usize >> i) % 2 == 1)
         }
     }
 }
 
 // A fact number below n, and the states of a view in which the fact is true.
-fn evaluate_fact(bytes: &[u8], at: usize, n: usize, fresh: bool, view: View) -> Evaluated
-    requires { length bytes.now ≤ most_bytes }
-    ensures { set_read result ≡ mapped (λ i. states_in view (fact_of fresh i)) (fact_number n bytes.now at) }
+fn evaluate_fact(packed: &Packed, at: usize, n: usize, fresh: bool, view: View) -> Parsed<States>
+    ensures { found result ≡ mapped (λ i. states_in view (fact_of fresh i)) (fact_number n packed.now at) }
 {
-    match field_at(bytes, at, 3) {
-        Field::Cut => Evaluated::Refused(Refusal::Cut),
-        Field::Value(i, next) => {
-            if n <= i {
-                return Evaluated::Refused(Refusal::FactNumber);
-            }
-            Evaluated::Holds(seen(i, fresh, view), next)
-        }
+    let (i, next) = attempt!(packed.field(at, 3));
+    if n <= i {
+        return Err(Refusal::FactNumber);
     }
+    Ok((seen(i, fresh, view), next))
 }
 
 // Whether a view is one of a theory, in which new facts may stand.
@@ -116,97 +97,102 @@ fn is_theory(view: View) -> bool
     }
 }
 
+// The states in which a formula of two parts holds, by those of its parts.
+fn joined(connective: Connective, a: States, b: States) -> States
+    ensures { result ≡ set_of (λ s. joins connective (member a s) (member b s)) }
+{
+    match connective {
+        Connective::And => a.intersect(b),
+        Connective::Or => a.union(b),
+        Connective::Same => a.agreement(b),
+    }
+}
+
 // An objective formula over n facts with `left` levels of depth left, evaluated in all states of a view at once.
-pub(crate) fn evaluate(bytes: &[u8], at: usize, left: usize, n: usize, view: View) -> Evaluated
-    requires { length bytes.now ≤ most_bytes }
-    ensures { set_read result ≡ mapped (states_in view) (objective n (in_theory view) left bytes.now at) }
+pub(crate) fn evaluate(
+    packed: &Packed,
+    at: usize,
+    left: usize,
+    n: usize,
+    view: View,
+) -> Parsed<States>
+    ensures { found result ≡ mapped (states_in view) (objective n (in_theory view) left packed.now at) }
 {
     if left == 0 {
-        return Evaluated::Refused(Refusal::Depth);
+        return Err(Refusal::Depth);
     }
-    match field_at(bytes, at, 3) {
-        Field::Cut => Evaluated::Refused(Refusal::Cut),
-        Field::Value(tag, next) => {
-            if tag < 2 {
-                return Evaluated::Holds(States::uniform(tag == 1), next);
+    let (node, next) = attempt!(packed.objective_node(at));
+    match node {
+        ObjectiveNode::Constant(value) => Ok((States::uniform(value), next)),
+        ObjectiveNode::Fact => evaluate_fact(packed, next, n, false, view),
+        ObjectiveNode::NewFact => {
+            if is_theory(view) {
+                return evaluate_fact(packed, next, n, true, view);
             }
-            if tag == 2 {
-                return evaluate_fact(bytes, next, n, false, view);
-            }
-            if tag == 3 {
-                if is_theory(view) {
-                    return evaluate_fact(bytes, next, n, true, view);
-                }
-                return Evaluated::Refused(Refusal::NewFact);
-            }
-            match evaluate(bytes, next, left - 1, n, view) {
-                Evaluated::Refused(r) => Evaluated::Refused(r),
-                Evaluated::Holds(a, second) => {
-                    if tag == 4 {
-                        return Evaluated::Holds(a.complement(), second);
-                    }
-                    match evaluate(bytes, second, left - 1, n, view) {
-                        Evaluated::Refused(r) => Evaluated::Refused(r),
-                        Evaluated::Holds(b, end) => {
-                            if tag == 5 {
-                                return Evaluated::Holds(a.intersect(b), end);
-                            }
-                            if tag == 6 {
-                                return Evaluated::Holds(a.union(b), end);
-                            }
-                            Evaluated::Holds(a.agreement(b), end)
-                        }
-                    }
-                }
-            }
+            Err(Refusal::NewFact)
+        }
+        ObjectiveNode::Not => {
+            let (a, end) = attempt!(evaluate(packed, next, left - 1, n, view));
+            Ok((a.complement(), end))
+        }
+        ObjectiveNode::Two(connective) => {
+            let (a, second) = attempt!(evaluate(packed, next, left - 1, n, view));
+            let (b, end) = attempt!(evaluate(packed, second, left - 1, n, view));
+            Ok((joined(connective, a, b), end))
         }
     }
 }
 
-// An epistemic formula over n facts with `left` levels of depth left.
-pub(crate) fn read_epistemic(bytes: &[u8], at: usize, left: usize, n: usize) -> Walked
-    requires { length bytes.now ≤ most_bytes }
-    ensures { end_read result ≡ mapped ending (epistemic n left bytes.now at) }
+// An epistemic formula over n facts with `left` levels of depth left: where it ends.
+pub(crate) fn read_epistemic(
+    packed: &Packed,
+    at: usize,
+    left: usize,
+    n: usize,
+) -> Result<usize, Refusal>
+    ensures { end_read result ≡ mapped ending (epistemic n left packed.now at) }
 {
     if left == 0 {
-        return Walked::Refused(Refusal::Depth);
+        return Err(Refusal::Depth);
     }
-    let next = match epistemic_at(bytes, at) {
-        EpistemicNode::Refused(r) => {
-            return Walked::Refused(r);
+    let (node, next) = attempt!(packed.epistemic_node(at));
+    match node {
+        EpistemicNode::Known | EpistemicNode::NotKnown => {
+            read_objective(packed, next, left - 1, n, View::States)
         }
-        EpistemicNode::Known(p) => {
-            return read_objective(bytes, p, left - 1, n, View::States);
+        EpistemicNode::AllOf | EpistemicNode::AnyOf => {
+            let second = attempt!(read_epistemic(packed, next, left - 1, n));
+            read_epistemic(packed, second, left - 1, n)
         }
-        EpistemicNode::NotKnown(p) => {
-            return read_objective(bytes, p, left - 1, n, View::States);
-        }
-        EpistemicNode::AllOf(p) => p,
-        EpistemicNode::AnyOf(p) => p,
-    };
-    match read_epistemic(bytes, next, left - 1, n) {
-        Walked::Refused(r) => Walked::Refused(r),
-        Walked::To(second) => read_epistemic(bytes, second, left - 1, n),
     }
 }
 
 // An objective formula in a view, only where it ends.
-pub(crate) fn read_objective(bytes: &[u8], at: usize, left: usize, n: usize, view: View) -> Walked
-    requires { length bytes.now ≤ most_bytes }
-    ensures { end_read result ≡ mapped ending (objective n (in_theory view) left bytes.now at) }
+pub(crate) fn read_objective(
+    packed: &Packed,
+    at: usize,
+    left: usize,
+    n: usize,
+    view: View,
+) -> Result<usize, Refusal>
+    ensures { end_read result ≡ mapped ending (objective n (in_theory view) left packed.now at) }
 {
-    match evaluate(bytes, at, left, n, view) {
-        Evaluated::Refused(r) => Walked::Refused(r),
-        Evaluated::Holds(set, end) => Walked::To(end),
+    let (set, end) = attempt!(evaluate(packed, at, left, n, view));
+    Ok(end)
+}
+
+impl<'a> Packed<'a> {
+    // The objective formula over n facts at a position: its set in a view, and the position after it.
+    pub fn objective(&self, at: usize, n: usize, view: View) -> Parsed<States>
+        ensures { found result ≡ mapped (states_in view) (objective n (in_theory view) deepest self.now at) }
+    {
+        evaluate(self, at, DEPTH, n, view)
     }
 }
 
-// The objective formula over n facts at a position: its set in a view, and the position after it.
-pub fn objective_states(bytes: &[u8], at: usize, n: usize, view: View) -> Evaluated
-    ensures { set_read result ≡ mapped (states_in view) (of_sheet (objective n (in_theory view) deepest) bytes.now at) }
+pub fn objective_states(bytes: &[u8], at: usize, n: usize, view: View) -> Parsed<States>
+    ensures { found result ≡ mapped (states_in view) (of_sheet (objective n (in_theory view) deepest) bytes.now at) }
 {
-    if BYTES < bytes.len() {
-        return Evaluated::Refused(Refusal::Length);
-    }
-    evaluate(bytes, at, DEPTH, n, view)
+    let packed = attempt!(Packed::new(bytes));
+    packed.objective(at, n, view)
 }

@@ -1,78 +1,66 @@
 // Reading the header of a sheet.
-ghost use Rattle.std.specs.Prelude.{◌≡◌, ◌≤◌, length};
-ghost use Rattle.format.specs.Format.{mapped, most_bytes, constraint_over, header_behind, is_edition, header as header_fields, of_sheet};
-ghost use Rattle.reader.specs.Answers.{set_read, space_set, spaced, header_is_read};
+ghost use Rattle.std.specs.Prelude.{◌≡◌};
+ghost use Rattle.format.specs.Format.{mapped, constraint_over, header_behind, is_edition, header as header_fields, of_sheet};
+ghost use Rattle.reader.specs.Answers.{found, edition_of, space_set, spaced, header_is_read};
 
-use crate::bits::{Field, field_at};
-use crate::formula::{Evaluated, View, evaluate};
-use crate::layout::{Header, ParsedHeader};
-use crate::limits::{BYTES, DEPTH, EDITION_1, EDITION_2, FACTS};
-use crate::refusal::Refusal;
+use crate::bits::Packed;
+use crate::formula::{View, evaluate};
+use crate::layout::{Edition, Header};
+use crate::limits::{DEPTH, FACTS};
+use crate::refusal::{Parsed, Refusal};
 use states::States;
 
-// Whether sheets of an edition are read.
-fn is_edition(edition: usize) -> bool
-    ensures { result ≡ is_edition edition }
-{
-    (edition == EDITION_1) | (edition == EDITION_2)
-}
-
 // The states over n facts, in edition 2 those that satisfy the constraint at a position; and the position behind it.
-fn space_at(bytes: &[u8], at: usize, edition: usize, n: usize) -> Evaluated
-    requires { length bytes.now ≤ most_bytes }
-    ensures { set_read result ≡ mapped (space_set n) (constraint_over edition n bytes.now at) }
+fn space_at(packed: &Packed, at: usize, edition: Edition, n: usize) -> Parsed<States>
+    ensures { found result ≡ mapped (space_set n) (constraint_over (edition_of edition) n packed.now at) }
 {
     let all = States::all(n);
-    if edition != EDITION_2 {
-        return Evaluated::Holds(all, at);
-    }
-    match evaluate(bytes, at, DEPTH, n, View::States) {
-        Evaluated::Refused(r) => Evaluated::Refused(r),
-        Evaluated::Holds(set, end) => Evaluated::Holds(all.intersect(set), end),
+    match edition {
+        Edition::First => Ok((all, at)),
+        Edition::Second => {
+            let (set, end) = attempt!(evaluate(packed, at, DEPTH, n, View::States));
+            Ok((all.intersect(set), end))
+        }
     }
 }
 
 // The header behind its edition and its number of facts.
-fn header_behind(bytes: &[u8], at: usize, edition: usize, n: usize) -> ParsedHeader
-    requires { length bytes.now ≤ most_bytes }
-    ensures { header_is_read result ≡ mapped spaced (header_behind edition n bytes.now at) }
+fn header_behind(packed: &Packed, at: usize, edition: Edition, n: usize) -> Result<Header, Refusal>
+    ensures { header_is_read result ≡ mapped spaced (header_behind (edition_of edition) n packed.now at) }
 {
-    match space_at(bytes, at, edition, n) {
-        Evaluated::Refused(r) => ParsedHeader::Refused(r),
-        Evaluated::Holds(space, actions_at) => match field_at(bytes, actions_at, 5) {
-            Field::Cut => ParsedHeader::Refused(Refusal::Cut),
-            Field::Value(k, end) => ParsedHeader::Read(Header {
-                edition,
-                facts: n,
-                actions: k,
-                space,
-                at: end,
-            }),
-        },
+    let (space, actions_at) = attempt!(space_at(packed, at, edition, n));
+    let (k, end) = attempt!(packed.field(actions_at, 5));
+    Ok(Header {
+        edition,
+        facts: n,
+        actions: k,
+        space,
+        at: end,
+    })
+}
+
+impl<'a> Packed<'a> {
+    // The header.
+    pub fn header(&self) -> Result<Header, Refusal>
+        ensures { header_is_read result ≡ mapped spaced (header_fields is_edition self.now 0) }
+    {
+        let (number, facts_at) = attempt!(self.field(0, 4));
+        let edition = attempt!(Edition::try_from(number));
+        let (n, at) = attempt!(self.field(facts_at, 4));
+        if n < 1 {
+            return Err(Refusal::Facts);
+        }
+        if FACTS < n {
+            return Err(Refusal::Facts);
+        }
+        header_behind(self, at, edition, n)
     }
 }
 
 // The header of a sheet.
-pub fn header(bytes: &[u8]) -> ParsedHeader
+pub fn header(bytes: &[u8]) -> Result<Header, Refusal>
     ensures { header_is_read result ≡ mapped spaced (of_sheet (header_fields is_edition) bytes.now 0) }
 {
-    if BYTES < bytes.len() {
-        return ParsedHeader::Refused(Refusal::Length);
-    }
-    let Field::Value(edition, facts_at) = field_at(bytes, 0, 4) else {
-        return ParsedHeader::Refused(Refusal::Cut);
-    };
-    if !is_edition(edition) {
-        return ParsedHeader::Refused(Refusal::Edition);
-    }
-    let Field::Value(n, at) = field_at(bytes, facts_at, 4) else {
-        return ParsedHeader::Refused(Refusal::Cut);
-    };
-    if n < 1 {
-        return ParsedHeader::Refused(Refusal::Facts);
-    }
-    if FACTS < n {
-        return ParsedHeader::Refused(Refusal::Facts);
-    }
-    header_behind(bytes, at, edition, n)
+    let packed = attempt!(Packed::new(bytes));
+    packed.header()
 }

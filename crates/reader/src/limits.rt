@@ -1,10 +1,5 @@
 // The limits of a sheet (document 01, "The sheet").
 
-// The editions that are read; the second has a constraint (document 02).
-pub(crate) const EDITION_1: usize = 1;
-
-pub(crate) const EDITION_2: usize = 2;
-
 // The most bytes of a sheet.
 pub const BYTES: usize = 1024;
 

@@ -1,156 +1,160 @@
-// Walking through a sheet: the first node at a position. The inner functions are told that the sheet is
-// short enough; the public ones test it.
-ghost use Rattle.std.specs.Prelude.{◌≡◌, ◌≤◌, length};
-ghost use Rattle.format.specs.Format.{most_bytes, kind, reply_total, epistemic_node, program_node, of_sheet};
-ghost use Rattle.reader.specs.Answers.{kind_read, total_read, epistemic_node_read, program_node_read};
+// Walking through a sheet: the first node at a position, in bytes that are few enough, or in any.
+ghost use Rattle.std.specs.Prelude.{◌≡◌};
+ghost use Rattle.format.specs.Format.{field, mapped, kind, reply_total, epistemic_node, program_node, of_sheet};
+ghost use Rattle.reader.specs.Answers.{found, kind_of, epistemic_node_of, program_node_of};
+ghost use Rattle.reader.specs.Method.{tag_of};
 
-use crate::bits::{Field, field_at};
-use crate::limits::{ACTION_NODES, BRANCH_NODES, BYTES, REPLIES};
-use crate::refusal::Refusal;
+use crate::bits::Packed;
+use crate::limits::{ACTION_NODES, BRANCH_NODES, REPLIES};
+use crate::refusal::{Parsed, Refusal};
 
-// The kind of an action, and the position after it.
+// The kind of an action.
 #[derive(Clone, Copy)]
 pub enum ActionKind {
-    Change(usize),
-    Probe(usize),
-    Refused(Refusal),
+    Change,
+    Probe,
 }
 
-// The reply count of a probe, and the position after it.
+// The first node of an objective formula; of a formula of two parts, what joins them.
 #[derive(Clone, Copy)]
-pub enum ReplyTotal {
-    Count(usize, usize),
-    Refused(Refusal),
+pub(crate) enum ObjectiveNode {
+    Constant(bool),
+    Fact,
+    NewFact,
+    Not,
+    Two(Connective),
 }
 
-// The first node of an epistemic formula, and the position after it.
+#[derive(Clone, Copy)]
+pub(crate) enum Connective {
+    And,
+    Or,
+    Same,
+}
+
+// The first node of an epistemic formula.
 #[derive(Clone, Copy)]
 pub enum EpistemicNode {
-    Known(usize),
-    NotKnown(usize),
-    AllOf(usize),
-    AnyOf(usize),
-    Refused(Refusal),
+    Known,
+    NotKnown,
+    AllOf,
+    AnyOf,
 }
 
-// The first node of a program, an action with its number, and the position after it.
+// The first node of a program, an action with its number.
 #[derive(Clone, Copy)]
 pub enum ProgramNode {
-    End(usize),
-    Act(usize, usize),
-    Branch(usize),
-    Refused(Refusal),
+    End,
+    Act(usize),
+    Branch,
 }
 
-// The kind of the action at a position.
-pub(crate) fn kind_at(bytes: &[u8], at: usize) -> ActionKind
-    requires { length bytes.now ≤ most_bytes }
-    ensures { kind_read result ≡ kind bytes.now at }
-{
-    let Field::Value(bit, next) = field_at(bytes, at, 1) else {
-        return ActionKind::Refused(Refusal::Cut);
-    };
-    if bit == 0 {
-        return ActionKind::Change(next);
-    }
-    ActionKind::Probe(next)
-}
-
-pub fn action_kind(bytes: &[u8], at: usize) -> ActionKind
-    ensures { kind_read result ≡ of_sheet kind bytes.now at }
-{
-    if BYTES < bytes.len() {
-        return ActionKind::Refused(Refusal::Length);
-    }
-    kind_at(bytes, at)
-}
-
-// The reply count at a position.
-pub(crate) fn total_at(bytes: &[u8], at: usize) -> ReplyTotal
-    requires { length bytes.now ≤ most_bytes }
-    ensures { total_read result ≡ reply_total bytes.now at }
-{
-    let Field::Value(m, next) = field_at(bytes, at, 4) else {
-        return ReplyTotal::Refused(Refusal::Cut);
-    };
-    if m < 1 {
-        return ReplyTotal::Refused(Refusal::Replies);
-    }
-    if REPLIES < m {
-        return ReplyTotal::Refused(Refusal::Replies);
-    }
-    ReplyTotal::Count(m, next)
-}
-
-pub fn reply_total(bytes: &[u8], at: usize) -> ReplyTotal
-    ensures { total_read result ≡ of_sheet reply_total bytes.now at }
-{
-    if BYTES < bytes.len() {
-        return ReplyTotal::Refused(Refusal::Length);
-    }
-    total_at(bytes, at)
-}
-
-// The first node of the epistemic formula at a position.
-pub(crate) fn epistemic_at(bytes: &[u8], at: usize) -> EpistemicNode
-    requires { length bytes.now ≤ most_bytes }
-    ensures { epistemic_node_read result ≡ epistemic_node bytes.now at }
-{
-    let Field::Value(tag, next) = field_at(bytes, at, 2) else {
-        return EpistemicNode::Refused(Refusal::Cut);
-    };
-    match tag {
-        0 => EpistemicNode::Known(next),
-        1 => EpistemicNode::NotKnown(next),
-        2 => EpistemicNode::AllOf(next),
-        _ => EpistemicNode::AnyOf(next),
-    }
-}
-
-pub fn epistemic_node(bytes: &[u8], at: usize) -> EpistemicNode
-    ensures { epistemic_node_read result ≡ of_sheet epistemic_node bytes.now at }
-{
-    if BYTES < bytes.len() {
-        return EpistemicNode::Refused(Refusal::Length);
-    }
-    epistemic_at(bytes, at)
-}
-
-// The first node of the program at a position, where so many action nodes and branch nodes were read before it.
-pub(crate) fn program_at(bytes: &[u8], at: usize, acts: usize, branches: usize) -> ProgramNode
-    requires { length bytes.now ≤ most_bytes }
-    ensures { program_node_read result ≡ program_node acts branches bytes.now at }
-{
-    let Field::Value(tag, next) = field_at(bytes, at, 2) else {
-        return ProgramNode::Refused(Refusal::Cut);
-    };
-    if tag == 0 {
-        return ProgramNode::End(next);
-    }
-    if tag == 1 {
-        if ACTION_NODES <= acts {
-            return ProgramNode::Refused(Refusal::Nodes);
+impl<'a> Packed<'a> {
+    // The kind of the action at a position.
+    pub fn kind(&self, at: usize) -> Parsed<ActionKind>
+        ensures { mapped kind_of (found result) ≡ kind self.now at }
+    {
+        let (bit, next) = attempt!(self.field(at, 1));
+        if bit == 0 {
+            return Ok((ActionKind::Change, next));
         }
-        let Field::Value(a, end) = field_at(bytes, next, 5) else {
-            return ProgramNode::Refused(Refusal::Cut);
-        };
-        return ProgramNode::Act(a, end);
+        Ok((ActionKind::Probe, next))
     }
-    if tag == 2 {
-        if BRANCH_NODES <= branches {
-            return ProgramNode::Refused(Refusal::Nodes);
+
+    // The reply count at a position.
+    pub fn reply_total(&self, at: usize) -> Parsed<usize>
+        ensures { found result ≡ reply_total self.now at }
+    {
+        let (m, next) = attempt!(self.field(at, 4));
+        if m < 1 {
+            return Err(Refusal::Replies);
         }
-        return ProgramNode::Branch(next);
+        if REPLIES < m {
+            return Err(Refusal::Replies);
+        }
+        Ok((m, next))
     }
-    ProgramNode::Refused(Refusal::Loop)
+
+    // The first node of the objective formula at a position.
+    pub(crate) fn objective_node(&self, at: usize) -> Parsed<ObjectiveNode>
+        ensures { mapped tag_of (found result) ≡ field 3 self.now at }
+    {
+        let (tag, next) = attempt!(self.field(at, 3));
+        match tag {
+            0 => Ok((ObjectiveNode::Constant(false), next)),
+            1 => Ok((ObjectiveNode::Constant(true), next)),
+            2 => Ok((ObjectiveNode::Fact, next)),
+            3 => Ok((ObjectiveNode::NewFact, next)),
+            4 => Ok((ObjectiveNode::Not, next)),
+            5 => Ok((ObjectiveNode::Two(Connective::And), next)),
+            6 => Ok((ObjectiveNode::Two(Connective::Or), next)),
+            _ => Ok((ObjectiveNode::Two(Connective::Same), next)),
+        }
+    }
+
+    // The first node of the epistemic formula at a position.
+    pub fn epistemic_node(&self, at: usize) -> Parsed<EpistemicNode>
+        ensures { mapped epistemic_node_of (found result) ≡ epistemic_node self.now at }
+    {
+        let (tag, next) = attempt!(self.field(at, 2));
+        match tag {
+            0 => Ok((EpistemicNode::Known, next)),
+            1 => Ok((EpistemicNode::NotKnown, next)),
+            2 => Ok((EpistemicNode::AllOf, next)),
+            _ => Ok((EpistemicNode::AnyOf, next)),
+        }
+    }
+
+    // The first node of the program at a position, where so many action nodes and branch nodes were read before it.
+    pub fn program_node(&self, at: usize, acts: usize, branches: usize) -> Parsed<ProgramNode>
+        ensures { mapped program_node_of (found result) ≡ program_node acts branches self.now at }
+    {
+        let (tag, next) = attempt!(self.field(at, 2));
+        if tag == 0 {
+            return Ok((ProgramNode::End, next));
+        }
+        if tag == 1 {
+            if ACTION_NODES <= acts {
+                return Err(Refusal::Nodes);
+            }
+            let (a, end) = attempt!(self.field(next, 5));
+            return Ok((ProgramNode::Act(a), end));
+        }
+        if tag == 2 {
+            if BRANCH_NODES <= branches {
+                return Err(Refusal::Nodes);
+            }
+            return Ok((ProgramNode::Branch, next));
+        }
+        Err(Refusal::Loop)
+    }
 }
 
-// The same with none read before it.
-pub fn program_node(bytes: &[u8], at: usize) -> ProgramNode
-    ensures { program_node_read result ≡ of_sheet (program_node 0 0) bytes.now at }
+pub fn action_kind(bytes: &[u8], at: usize) -> Parsed<ActionKind>
+    ensures { mapped kind_of (found result) ≡ of_sheet kind bytes.now at }
 {
-    if BYTES < bytes.len() {
-        return ProgramNode::Refused(Refusal::Length);
-    }
-    program_at(bytes, at, 0, 0)
+    let packed = attempt!(Packed::new(bytes));
+    packed.kind(at)
+}
+
+pub fn reply_total(bytes: &[u8], at: usize) -> Parsed<usize>
+    ensures { found result ≡ of_sheet reply_total bytes.now at }
+{
+    let packed = attempt!(Packed::new(bytes));
+    packed.reply_total(at)
+}
+
+pub fn epistemic_node(bytes: &[u8], at: usize) -> Parsed<EpistemicNode>
+    ensures { mapped epistemic_node_of (found result) ≡ of_sheet epistemic_node bytes.now at }
+{
+    let packed = attempt!(Packed::new(bytes));
+    packed.epistemic_node(at)
+}
+
+// With no action nodes and branch nodes before it.
+pub fn program_node(bytes: &[u8], at: usize) -> Parsed<ProgramNode>
+    ensures { mapped program_node_of (found result) ≡ of_sheet (program_node 0 0) bytes.now at }
+{
+    let packed = attempt!(Packed::new(bytes));
+    packed.program_node(at, 0, 0)
 }

@@ -1,11 +1,12 @@
 // Programs: reading them.
-ghost use Rattle.std.specs.Prelude.{◌≡◌, ◌≤◌, length};
-ghost use Rattle.format.specs.Format.{mapped, most_bytes, program_within};
+ghost use Rattle.std.specs.Prelude.{◌≡◌};
+ghost use Rattle.format.specs.Format.{mapped, program_within};
 ghost use Rattle.reader.specs.Method.{count_read, counts};
 
-use crate::formula::{Walked, read_epistemic};
+use crate::bits::Packed;
+use crate::formula::read_epistemic;
 use crate::limits::DEPTH;
-use crate::nodes::{ProgramNode, program_at};
+use crate::nodes::ProgramNode;
 use crate::refusal::Refusal;
 
 // A position in a program, and the action nodes and branch nodes read before it.
@@ -16,65 +17,48 @@ pub(crate) struct Cursor {
     pub branches: usize,
 }
 
-// The cursor after what was read, or why it was refused.
-#[derive(Clone, Copy)]
-pub(crate) enum Counted {
-    To(Cursor),
-    Refused(Refusal),
-}
-
-// A program over n facts and k actions, with `left` levels left.
-pub(crate) fn read_program(bytes: &[u8], p: Cursor, n: usize, k: usize, left: usize) -> Counted
-    requires { length bytes.now ≤ most_bytes }
-    ensures { count_read result ≡ mapped counts (program_within n k left p.acts p.branches bytes.now p.at) }
+// A program over n facts and k actions, with `left` levels left: the cursor behind it.
+pub(crate) fn read_program(
+    packed: &Packed,
+    p: Cursor,
+    n: usize,
+    k: usize,
+    left: usize,
+) -> Result<Cursor, Refusal>
+    ensures { count_read result ≡ mapped counts (program_within n k left p.acts p.branches packed.now p.at) }
 {
     if left == 0 {
-        return Counted::Refused(Refusal::Nodes);
+        return Err(Refusal::Nodes);
     }
     let acts = p.acts;
     let branches = p.branches;
-    match program_at(bytes, p.at, acts, branches) {
-        ProgramNode::Refused(r) => Counted::Refused(r),
-        ProgramNode::End(end) => Counted::To(Cursor {
-            at: end,
+    let (node, next) = attempt!(packed.program_node(p.at, acts, branches));
+    match node {
+        ProgramNode::End => Ok(Cursor {
+            at: next,
             acts,
             branches,
         }),
-        ProgramNode::Act(a, next) => {
+        ProgramNode::Act(a) => {
             if k <= a {
-                return Counted::Refused(Refusal::ActionNumber);
+                return Err(Refusal::ActionNumber);
             }
-            read_program(
-                bytes,
-                Cursor {
-                    at: next,
-                    acts: acts + 1,
-                    branches,
-                },
-                n,
-                k,
-                left - 1,
-            )
+            let rest = Cursor {
+                at: next,
+                acts: acts + 1,
+                branches,
+            };
+            read_program(packed, rest, n, k, left - 1)
         }
-        ProgramNode::Branch(next) => match read_epistemic(bytes, next, DEPTH, n) {
-            Walked::Refused(r) => Counted::Refused(r),
-            Walked::To(yes) => match read_program(
-                bytes,
-                Cursor {
-                    at: yes,
-                    acts,
-                    branches: branches + 1,
-                },
-                n,
-                k,
-                left - 1,
-            ) {
-                Counted::Refused(r) => Counted::Refused(r),
-                Counted::To(other) => match read_program(bytes, other, n, k, left - 1) {
-                    Counted::Refused(r) => Counted::Refused(r),
-                    Counted::To(rest) => read_program(bytes, rest, n, k, left - 1),
-                },
-            },
-        },
+        ProgramNode::Branch => {
+            let yes = Cursor {
+                at: attempt!(read_epistemic(packed, next, DEPTH, n)),
+                acts,
+                branches: branches + 1,
+            };
+            let no = attempt!(read_program(packed, yes, n, k, left - 1));
+            let rest = attempt!(read_program(packed, no, n, k, left - 1));
+            read_program(packed, rest, n, k, left - 1)
+        }
     }
 }

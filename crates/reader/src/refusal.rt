@@ -1,48 +1,35 @@
-// Why a sheet is refused.
+// Why a sheet is refused, and what a reader answers.
 ghost use Rattle.std.specs.Prelude.{◌≡◌};
 ghost use Rattle.reader.specs.Answers.{number_of};
 
-// In the order of their numbers, from 1 on: document 01's, and document 02's 16.
+// By the numbers of document 01 and, the last, of document 02.
 #[derive(Clone, Copy)]
 pub enum Refusal {
-    Length,
-    Cut,
-    Edition,
-    Facts,
-    Replies,
-    FactNumber,
-    NewFact,
-    Depth,
-    ActionNumber,
-    Loop,
-    Nodes,
-    Padding,
-    NoStart,
-    NoNext,
-    NoReply,
-    NoState,
+    Length = 1,
+    Cut = 2,
+    Edition = 3,
+    Facts = 4,
+    Replies = 5,
+    FactNumber = 6,
+    NewFact = 7,
+    Depth = 8,
+    ActionNumber = 9,
+    Loop = 10,
+    Nodes = 11,
+    Padding = 12,
+    NoStart = 13,
+    NoNext = 14,
+    NoReply = 15,
+    NoState = 16,
 }
 
-// Its number.
-pub fn number(r: Refusal) -> u8
-    ensures { result ≡ number_of r }
-{
-    match r {
-        Refusal::Length => 1,
-        Refusal::Cut => 2,
-        Refusal::Edition => 3,
-        Refusal::Facts => 4,
-        Refusal::Replies => 5,
-        Refusal::FactNumber => 6,
-        Refusal::NewFact => 7,
-        Refusal::Depth => 8,
-        Refusal::ActionNumber => 9,
-        Refusal::Loop => 10,
-        Refusal::Nodes => 11,
-        Refusal::Padding => 12,
-        Refusal::NoStart => 13,
-        Refusal::NoNext => 14,
-        Refusal::NoReply => 15,
-        Refusal::NoState => 16,
+impl From<Refusal> for u8 {
+    ghost from_gives = { λ refusal number. number ≡ number_of refusal };
+
+    fn from(refusal: Refusal) -> u8 {
+        refusal as u8
     }
 }
+
+// What was read, and the position after it; or why it was refused.
+pub type Parsed<T> = Result<(T, usize), Refusal>;

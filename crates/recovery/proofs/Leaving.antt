@@ -188,7 +188,7 @@ module _ {M : Type 1} {𝓤 : Ura M} (𝓛 : Logic 𝓤) (𝓜 : Model 𝓤 𝓛
       (λ ns. verify-in-reads.Learnt (bound args ns).0 (bound args ns).3) (λ ns t. id⊢ 𝓤 _) (λ ns. refl) (λ ns. id⊢ 𝓤 _) (λ ns ws. ws) (λ ns ws. id⊢ 𝓤 _) fit σ F s)
       (λ q.
       let f = q.7 in
-      so 𝓛 𝓜 function args σ F q.1 _ _ _ q.2 (head_is q.6.0 ∙ ap (vint w8) (f.0 (fit.1.1.1.1.0, fit.1.1.1.1.1.0, fit.1.1.1.1.1.1.0)).0) (λ i. to_verify_in p sheet budget ((f.0 (fit.1.1.1.1.0, fit.1.1.1.1.1.0, fit.1.1.1.1.1.1.0)).1 i) ((f.0 (fit.1.1.1.1.0, fit.1.1.1.1.1.0, fit.1.1.1.1.1.1.0)).2 i) (record { heads = f.2.0 i; nodes = f.2.1 i; sets = f.2.2 i }) (f.1 i)) (q.5, q.8.0, q.8.1, q.8.2))
+      so 𝓛 𝓜 function args σ F q.1 _ _ _ q.2 (head_is q.6.0 ∙ ap (vint w8) f.0) (λ i. to_verify_in p sheet budget (f.1 i) (f.2 i) (record { heads = f.4.0 i; nodes = f.4.1 i; sets = f.4.2 i }) (f.3 i)) (q.5, q.8.0, q.8.1, q.8.2))
 
   pub check_leaves : (function : Routine) → Meets 𝓛 check.signature (𝓡.returns function) (check.spec 𝓛 𝓜.mem 𝓡.returns) → (sheet trace : List ℕ)
       → Leaves 𝓛 𝓜 function (to_check p sheet trace) (vint w8 (checked_number (checked sheet trace))) (to_check p sheet trace)
@@ -212,7 +212,7 @@ module _ {M : Type 1} {𝓤 : Ura M} (𝓛 : Logic 𝓤) (𝓜 : Model 𝓤 𝓛
       (λ ns. check-in-reads.Learnt (bound args ns).0 (bound args ns).3) (λ ns t. id⊢ 𝓤 _) (λ ns. refl) (λ ns. id⊢ 𝓤 _) (λ ns ws. ws) (λ ns ws. id⊢ 𝓤 _) fit σ F s)
       (λ q.
       let f = q.7 in
-      so 𝓛 𝓜 function args σ F q.1 _ _ _ q.2 (head_is q.6.0 ∙ ap (vint w8) (f.0 (fit.1.1.0, fit.1.1.1.0, fit.1.1.1.1.0))) (λ i. to_check_in p sheet trace (record { heads = f.1.0 i; nodes = f.1.1 i; sets = f.1.2 i })) (q.5, q.8.0, q.8.1, q.8.2))
+      so 𝓛 𝓜 function args σ F q.1 _ _ _ q.2 (head_is q.6.0 ∙ ap (vint w8) f.0) (λ i. to_check_in p sheet trace (record { heads = f.1.0 i; nodes = f.1.1 i; sets = f.1.2 i })) (q.5, q.8.0, q.8.1, q.8.2))
 
   pub print_leaves : (function : Routine) → Meets 𝓛 print.signature (𝓡.returns function) (print.spec 𝓛 𝓜.mem 𝓡.returns) → (sheet out : List ℕ)
       → Leaves 𝓛 𝓜 function (to_print p sheet out) (vint w64 (length (printed sheet))) (to_print p sheet (write out 0 (printed sheet)))
@@ -281,7 +281,7 @@ module _ {M : Type 1} {𝓤 : Ura M} (𝓛 : Logic 𝓤) (𝓜 : Model 𝓤 𝓛
       (λ ns. next-in-reads.Learnt (bound args ns).0 (bound args ns).3) (λ ns t. id⊢ 𝓤 _) (λ ns. refl) (λ ns. id⊢ 𝓤 _) (λ ns ws. ws) (λ ns ws. id⊢ 𝓤 _) fit σ F s)
       (λ q.
       let f = q.7 in
-      so 𝓛 𝓜 function args σ F q.1 _ _ _ q.2 (head_is q.6.0 ∙ ap (vint w8) (f.0 (fit.1.1.1.1.0, fit.1.1.1.1.1.0, fit.1.1.1.1.1.1.0)).0) (λ i. to_next_in p r ((f.0 (fit.1.1.1.1.0, fit.1.1.1.1.1.0, fit.1.1.1.1.1.1.0)).1 i) (record { heads = f.1.0 i; nodes = f.1.1 i; sets = f.1.2 i })) (q.5, q.8.0, q.8.1, q.8.2))
+      so 𝓛 𝓜 function args σ F q.1 _ _ _ q.2 (head_is q.6.0 ∙ ap (vint w8) f.0) (λ i. to_next_in p r (f.1 i) (record { heads = f.2.0 i; nodes = f.2.1 i; sets = f.2.2 i })) (q.5, q.8.0, q.8.1, q.8.2))
 
   pub report_leaves : (function : Routine) → Meets 𝓛 report.signature (𝓡.returns function) (report.spec 𝓛 𝓜.mem 𝓡.returns) → (r : Record) (reply : ℕ)
       → Leaves 𝓛 𝓜 function (to_report p r reply) (vint w8 (number_for (report_on r reply))) (to_report p (record_after r reply) reply)
@@ -305,7 +305,7 @@ module _ {M : Type 1} {𝓤 : Ura M} (𝓛 : Logic 𝓤) (𝓜 : Model 𝓤 𝓛
       (λ ns. report-in-reads.Learnt (bound args ns).0 (bound args ns).3) (λ ns t. id⊢ 𝓤 _) (λ ns. refl) (λ ns. id⊢ 𝓤 _) (λ ns ws. ws) (λ ns ws. id⊢ 𝓤 _) fit σ F s)
       (λ q.
       let f = q.7 in
-      so 𝓛 𝓜 function args σ F q.1 _ _ _ q.2 (head_is q.6.0 ∙ ap (vint w8) (f.0 (fit.1.1.1.1.0, fit.1.1.1.1.1.0, fit.1.1.1.1.1.1.0)).0) (λ i. (record_pieces reads writes (p 0) (p 1) (p 2) (kept_sheet r fit.0 reply i) ((f.0 (fit.1.1.1.1.0, fit.1.1.1.1.1.0, fit.1.1.1.1.1.1.0)).1 i) ((f.0 (fit.1.1.1.1.0, fit.1.1.1.1.1.0, fit.1.1.1.1.1.1.0)).2 i) ++ (number w8 reply ∷ [])) ++ lent_tables (p 3) (p 4) (p 5) (record { heads = f.1.0 i; nodes = f.1.1 i; sets = f.1.2 i })) (q.5, q.8.0, q.8.1, q.8.2))
+      so 𝓛 𝓜 function args σ F q.1 _ _ _ q.2 (head_is q.6.0 ∙ ap (vint w8) f.0) (λ i. (record_pieces reads writes (p 0) (p 1) (p 2) (kept_sheet r fit.0 reply i) (f.1 i) (f.2 i) ++ (number w8 reply ∷ [])) ++ lent_tables (p 3) (p 4) (p 5) (record { heads = f.3.0 i; nodes = f.3.1 i; sets = f.3.2 i })) (q.5, q.8.0, q.8.1, q.8.2))
 
   pub feed_leaves : (function : Routine) → Meets 𝓛 feed.signature (𝓡.returns function) (feed.spec 𝓛 𝓜.mem 𝓡.returns) → (piece numbers begun : List ℕ) (t : Tables) (memo : List ℕ)
       → Leaves 𝓛 𝓜 function (to_feed p piece numbers begun t memo) (vint w8 (flag_number (is_done (fed (lent_release numbers begun) piece)))) (to_feed p piece (release_numbers (fed (lent_release numbers begun) piece)) (fed (lent_release numbers begun) piece).begun.bytes (tables_after_all (read_by (lent_release numbers begun) piece) t) (cleared_all (read_by (lent_release numbers begun) piece) memo))
@@ -317,8 +317,7 @@ module _ {M : Type 1} {𝓤 : Ura M} (𝓛 : Logic 𝓤) (𝓜 : Model 𝓤 𝓛
       (λ ns. feed-reads.Learnt (bound args ns).0 (bound args ns).3) (λ ns t. id⊢ 𝓤 _) (λ ns. refl) (λ ns. id⊢ 𝓤 _) (λ ns ws. ws) (λ ns ws. id⊢ 𝓤 _) fit σ F s)
       (λ q.
       let f = q.7 in
-      let g = f.0 (fit.1.1.1.0, fit.1.1.1.1.0, fit.1.1.1.1.1.0) in
-      so 𝓛 𝓜 function args σ F q.1 _ _ _ q.2 (head_is q.6.0 ∙ ap (vint w8) g.0) (λ i. to_feed p piece (g.1 i) (g.2 i) (record { heads = f.2.0 i; nodes = f.2.1 i; sets = f.2.2 i }) (f.1 i)) (q.5, q.8.0, q.8.1, q.8.2))
+      so 𝓛 𝓜 function args σ F q.1 _ _ _ q.2 (head_is q.6.0 ∙ ap (vint w8) f.0) (λ i. to_feed p piece (f.1 i) (f.2 i) (record { heads = f.4.0 i; nodes = f.4.1 i; sets = f.4.2 i }) (f.3 i)) (q.5, q.8.0, q.8.1, q.8.2))
 
   pub end_leaves : (function : Routine) → Meets 𝓛 end.signature (𝓡.returns function) (end.spec 𝓛 𝓜.mem 𝓡.returns) → (numbers begun figures : List ℕ)
       → Leaves 𝓛 𝓜 function (to_end p numbers begun figures) (vunit) (to_end p numbers begun (figure_numbers (meant_by (ended (lent_release numbers begun)))))

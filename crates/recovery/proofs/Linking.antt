@@ -43,7 +43,7 @@ Needs W = Holds W "recovery" table × checker.Needs W × printing.Needs W × pro
 
 module _ (W : World) (needs : Needs W) where
   below : link.Below W
-  below = (checker.check_has W needs.1, (checker.check_in_has W needs.1, (printing.print_has W needs.2, (printing.print_figures_has W needs.2, (progression.known_has W needs.3, (progression.pass_has W needs.3, (progression.settle_has W needs.3, (progression.step_has W needs.3, (reader.number_has W needs.4, (reader.read_has W needs.4, (release.end_has W needs.5, (release.feed_has W needs.5, (release.is_done_has W needs.5, (release.numbers_has W needs.5, (routine.prepare_has W needs.6, (runner.load_has W needs.7, (runner.load_in_has W needs.7, (runner.next_has W needs.7, (runner.next_in_has W needs.7, (runner.report_has W needs.7, (runner.report_in_has W needs.7, (runner.number_has W needs.7, (states.of_words_has W needs.8, (states.words_has W needs.8, (verifier.number_has W needs.9, (verifier.verify_has W needs.9, (verifier.verify_in_has W needs.9, tt)))))))))))))))))))))))))))
+  below = (checker.check_has W needs.1, (checker.check_in_has W needs.1, (printing.print_has W needs.2, (printing.print_figures_has W needs.2, (progression.known_has W needs.3, (progression.pass_has W needs.3, (progression.settle_has W needs.3, (progression.step_has W needs.3, (reader.read_has W needs.4, (reader.from_has W needs.4, (release.end_has W needs.5, (release.feed_has W needs.5, (release.is_done_has W needs.5, (release.numbers_has W needs.5, (routine.prepare_has W needs.6, (runner.from_has W needs.7, (runner.load_has W needs.7, (runner.load_in_has W needs.7, (runner.next_has W needs.7, (runner.next_in_has W needs.7, (runner.report_has W needs.7, (runner.report_in_has W needs.7, (states.of_words_has W needs.8, (states.words_has W needs.8, (verifier.number_has W needs.9, (verifier.verify_has W needs.9, (verifier.verify_in_has W needs.9, tt)))))))))))))))))))))))))))
 
   pub recovery_check_has : HasT (in_world W) true recovery_check-symbol.code
   recovery_check_has = link.linked-recovery::recovery_check W needs.0 below

@@ -1,13 +1,15 @@
 -- Laws of answers as numbers. Assumes nothing.
 use Prim.Native.Nat.{ℕ}
 use mathlib.Core.Path.{◌≡◌, refl, sym, ap, subst, ◌∙◌}
-use mathlib.Core.List.{List}
-use mathlib.Core.Bool.{Bool}
+use mathlib.Core.List.{List, [], ◌∷◌}
+use mathlib.Core.Bool.{Bool, true, false}
+use mir.Val.{bool_byte}
 use native.Mathlib.Omega.{arith}
 use Rattle.states.specs.declared.States.{States}
 use Rattle.format.specs.Syntax.{Sheet}
 use Rattle.format.specs.Format.{Answer, gives, refused}
-use Rattle.reader.specs.Answers.{without_value, number_for}
+use Rattle.reader.specs.declared.refusal.Refusal.{Refusal}
+use Rattle.reader.specs.Answers.{number_of, answer_of, without_value, number_for}
 use Rattle.states.specs.Sets.{words, of_words}
 use Rattle.routine.specs.Tables.{start_of, TablesAfter}
 use Rattle.progression.specs.declared.place.Place.{Place}
@@ -15,14 +17,34 @@ use Rattle.progression.specs.declared.reply.Passed.{Passed}
 use Rattle.progression.specs.Machine.{stepped, passed_by, settled, known_by, Inside}
 use Rattle.semantics.specs.Verdict.{Verdict, Verified}
 use Rattle.verifier.specs.declared.verdict.Verdict.{Verdict as VerdictValue}
+use Rattle.verifier.specs.declared.verdict.VerifyError.{VerifyError}
 use Rattle.verifier.specs.Answers.{answer_of as verdict_of, verified_by}
 use Rattle.verifier.proofs.AnswerLaws.{parts}
-use Rattle.semantics.specs.Replies.{Told}
+use Rattle.semantics.specs.Replies.{Told, at_end}
+use Rattle.std.specs.Prelude.{Result, Ok, Err, MatchResult}
+use Rattle.runner.specs.declared.answer.Rejection.{Rejection}
+use Rattle.runner.specs.Answers.{rejection_number, reported_of}
 use Rattle.runner.specs.declared.calls.Record.{Record}
 use Rattle.runner.specs.Records.{sheet_in, next_on, report_on, record_after}
 use Rattle.release.specs.declared.feeding.Release.{Release}
 use Rattle.release.specs.Feeding.{fed, is_done, read_by, cleared_all, TablesAfterAll}
 use Rattle.recovery.specs.Numbers.{memory_after, start_words, place_number, flag_number, verdict_numbers, lengths_of, told_numbers, release_numbers}
+
+-- A truth value that the code casts to a number: yes and no; where a program settles at its end; and what is told there.
+pub flag_cast : (b : Bool) → bool_byte b ≡ flag_number b
+unfolding flag_number
+flag_cast true = refl
+flag_cast false = refl
+
+pub place_cast : (b : Bool) → bool_byte b ≡ place_number (Place.End b)
+unfolding place_number
+place_cast true = refl
+place_cast false = refl
+
+pub told_cast : (b : Bool) → 1 ∷ bool_byte b ∷ [] ≡ told_numbers (at_end b)
+unfolding told_numbers
+told_cast true = refl
+told_cast false = refl
 
 -- An answer has the same number without its sheet.
 number_without : {A : Type 0} (a : Answer A) → number_for (without_value a) ≡ number_for a
@@ -73,7 +95,7 @@ pub known_lent : (sets memory : List ℕ) (k : ℕ) (set : States) (told : Bool)
 known_lent sets memory k set told s e = e ∙ ap (λ (u : States). known_by sets u k) s
 
 -- The numbers of a call of the verifier, from those of its answer.
-pub verdict_numbers_law : (r : VerdictValue) (memory : List ℕ) (v : Verified) → verified_by r memory ≡ v → (k : ℕ) (old after : List ℕ) → after ≡ memory_after verdict_numbers (verdict_of r) old → k ≡ number_for (verdict_of r)
+pub verdict_numbers_law : (r : Result VerdictValue VerifyError) (memory : List ℕ) (v : Verified) → verified_by r memory ≡ v → (k : ℕ) (old after : List ℕ) → after ≡ memory_after verdict_numbers (verdict_of r) old → k ≡ number_for (verdict_of r)
     → (k ≡ number_for v.answer) × (memory ≡ v.memory) × (after ≡ memory_after verdict_numbers v.answer old)
 verdict_numbers_law r memory v e k old after w n =
     let p = parts r memory v e in
@@ -103,6 +125,17 @@ tables_lent r lent l heads nodes sets heads' nodes' sets' t = subst (λ (x : Rec
 -- The parts of a record that lent memory keeps.
 pub record_parts : (r kept : Record) → r ≡ kept → (r.sheet ≡ kept.sheet) × (r.replies ≡ kept.replies) × (lengths_of r ≡ lengths_of kept)
 record_parts r kept e = (ap (λ (x : Record). x.sheet) e, ap (λ (x : Record). x.replies) e, ap lengths_of e)
+
+-- What `code` gives for the reader's answer, and for the answer to a report.
+pub answer_coded : (a : Result (Unit {0}) Refusal) (k : ℕ) → MatchResult a (λ u. k ≡ 0) (λ r. k ≡ number_of r) → k ≡ number_for (answer_of a)
+unfolding answer_of number_for
+answer_coded (Ok u) k e = e
+answer_coded (Err r) k e = e
+
+pub report_coded : (a : Result (Unit {0}) Rejection) (k : ℕ) → MatchResult a (λ u. k ≡ 0) (λ r. k ≡ rejection_number r) → k ≡ number_for (reported_of a)
+unfolding reported_of number_for
+report_coded (Ok u) k e = e
+report_coded (Err r) k e = e
 
 -- The number of a report on a record that was lent, and the parts of the record after it.
 pub report_number : (r lent : Record) (reply : ℕ) (a : Answer (Unit {0})) → r ≡ lent → a ≡ without_value (report_on r reply) → number_for a ≡ number_for (report_on lent reply)

@@ -2,7 +2,7 @@
 // an array of fixed length is a pointer to its first element. (The crate `recovery_c` exports them.)
 #![tactic(auto)]
 
-ghost use Rattle.std.specs.Prelude.{◌≡◌, [], ◌∷◌, ◌≤◌, length};
+ghost use Rattle.std.specs.Prelude.{MatchResult, ◌≡◌, [], ◌∷◌, ◌≤◌, length};
 ghost use Rattle.format.specs.Format.{reading};
 ghost use Rattle.reader.specs.Answers.{answer_of, number_for};
 ghost use Rattle.semantics.specs.Verdict.{admitted, verified};
@@ -10,7 +10,6 @@ ghost use Rattle.semantics.specs.Checker.{checked};
 ghost use Rattle.semantics.specs.Printing.{most_lines, printed, numbers_line};
 ghost use Rattle.states.specs.Sets.{words, of_words};
 ghost use Rattle.lists.specs.Lists.{write};
-ghost use Rattle.routine.specs.Memory.{Sized};
 ghost use Rattle.routine.specs.Tables.{TablesAfter};
 ghost use Rattle.progression.specs.Machine.{stepped, passed_by, settled, known_by, Inside};
 ghost use Rattle.verifier.specs.Answers.{answer_of as verdict_of, cleared};
@@ -22,23 +21,25 @@ ghost use Rattle.release.specs.Counting.{meant_by};
 ghost use Rattle.release.specs.Feeding.{fed, is_done, ended, read_by, cleared_all, TablesAfterAll};
 ghost use Rattle.recovery.specs.Numbers.{memory_after, start_words, place_number, flag_number, verdict_numbers, checked_number, lent_record, lengths_of, told_numbers, lent_release, release_numbers};
 
-use checker::{Checked, check, check_in};
+use checker::{check, check_in};
 use printing::{LINES, print, print_figures};
 use progression::{Place, known, pass, settle, step};
-use reader::Acceptance;
+use reader::Refusal;
 use release::{Begun, Figures, Release};
-use routine::{HEAD_CELLS, NODE_CELLS, Prepared, SET_WORDS, prepare};
-use runner::{Record, Rejection, Reported, Told};
+use routine::{HEAD_CELLS, NODE_CELLS, SET_WORDS, prepare};
+use runner::{Record, Rejection, Told};
 use states::States;
-use verifier::{MEMO_WORDS, Verdict, verify, verify_in};
+use verifier::{MEMO_WORDS, Verdict, VerifyError, verify, verify_in};
 
-// The reader's answer as a number.
-fn answer_number(answer: Acceptance) -> u8
-    ensures { result ≡ number_for (answer_of answer) }
+// The number of an answer without a value: 0, or that of its refusal.
+fn code<E>(answer: Result<(), E>) -> u8
+where
+    u8: From<E>,
+    ensures { MatchResult answer (λ _. result ≡ 0) (λ e. ⟦<u8 as From<E>>⟧.from_gives e result) }
 {
     match answer {
-        Acceptance::Accepted => 0,
-        Acceptance::Refused(r) => reader::number(r),
+        Ok(()) => 0,
+        Err(error) => u8::from(error),
     }
 }
 
@@ -47,7 +48,7 @@ fn answer_number(answer: Acceptance) -> u8
 pub extern "C" fn recovery_read(bytes: &[u8]) -> u8
     ensures { result ≡ number_for (reading bytes.now) }
 {
-    answer_number(reader::read(bytes))
+    code(reader::read(bytes))
 }
 
 // Writes the tables of an accepted sheet and the words of its start set, and gives 0. For a refused sheet it gives the
@@ -63,8 +64,8 @@ pub extern "C" fn recovery_prepare(
     ensures { (result ≡ number_for (reading bytes.now)) × (start.new ≡ memory_after start_words (reading bytes.now) start.old) × TablesAfter (reading bytes.now) heads.old nodes.old sets.old heads.new nodes.new sets.new }
 {
     match prepare(bytes, heads, nodes, sets) {
-        Prepared::Refused(r) => reader::number(r),
-        Prepared::Ready(set) => {
+        Err(refusal) => u8::from(refusal),
+        Ok(set) => {
             *start = set.words();
             0
         }
@@ -87,16 +88,6 @@ pub extern "C" fn recovery_step(
     *set = after.words();
 }
 
-// Yes and no as numbers.
-fn flag(x: bool) -> u8
-    ensures { result ≡ flag_number x }
-{
-    if x {
-        return 1;
-    }
-    0
-}
-
 // One pass over the states of a set when a reply to an action comes in: replaces the set by the states in which the reply is
 // true, writes how often the reply was evaluated, which is once for each state of the set, and gives 1 if the reply is
 // possible, 0 if no state is left. The reply is looked at after the action's effect, so the set is that of the states possible
@@ -114,10 +105,9 @@ pub extern "C" fn recovery_pass(
 {
     let before = States::of_words(set);
     let passed = pass(heads, sets, before, action, reply);
-    let kept = passed.kept;
-    *set = kept.words();
+    *set = passed.kept.words();
     *evaluations = [passed.evaluations];
-    flag(passed.possible)
+    passed.possible as u8
 }
 
 // Where the program settles from node `at` on: 0 for an end at which the goal fails, 1 for an end at which it holds, else
@@ -132,7 +122,7 @@ pub extern "C" fn recovery_settle(
     ensures { (result ≡ place_number (settled nodes.now sets.now (of_words set.now) at)) × Inside (settled nodes.now sets.now (of_words set.now) at) }
 {
     match settle(nodes, sets, States::of_words(set), at) {
-        Place::End(holds) => { if holds { 1 } else { 0 } }
+        Place::End(holds) => holds as u64,
         Place::Act(node, action) => 2 + 65536 * (node as u64) + (action as u64),
     }
 }
@@ -146,25 +136,24 @@ pub extern "C" fn recovery_known(
 ) -> u8
     ensures { result ≡ flag_number (known_by sets.now (of_words set.now) k) }
 {
-    flag(known(sets, k, States::of_words(set)))
+    known(sets, k, States::of_words(set)) as u8
 }
 
 // Writes a verdict as three numbers. A refusal leaves the memory as it was.
-fn put_verdict(memory: &mut [u64; 3], answer: Verdict)
+fn put_verdict(memory: &mut [u64; 3], answer: Result<Verdict, VerifyError>)
     ensures { memory.new ≡ memory_after verdict_numbers (verdict_of answer) memory.old }
 {
     match answer {
-        Verdict::Valid(c) => {
+        Ok(Verdict::Valid(c)) => {
             *memory = [0, c as u64, 0];
         }
-        Verdict::Invalid(c, l) => {
+        Ok(Verdict::Invalid(c, l)) => {
             *memory = [1, c as u64, l as u64];
         }
-        Verdict::Stopped(b) => {
+        Ok(Verdict::Stopped(b)) => {
             *memory = [2, b as u64, 0];
         }
-        Verdict::ShortMemory => {}
-        Verdict::Refused(r) => {}
+        Err(error) => {}
     }
 }
 
@@ -199,7 +188,7 @@ pub extern "C" fn recovery_verify_in(
     sets: &mut [u64; SET_WORDS],
     memo: &mut [u64; MEMO_WORDS],
 ) -> u8
-    ensures { (Sized heads.old nodes.old sets.old → (result ≡ number_for (verified bytes.now budget trace.old).answer) × (trace.new ≡ (verified bytes.now budget trace.old).memory) × (verdict.new ≡ memory_after verdict_numbers (verified bytes.now budget trace.old).answer verdict.old)) × (memo.new ≡ cleared (admitted bytes.now trace.old) memo.old) × TablesAfter (admitted bytes.now trace.old) heads.old nodes.old sets.old heads.new nodes.new sets.new }
+    ensures { (result ≡ number_for (verified bytes.now budget trace.old).answer) × (trace.new ≡ (verified bytes.now budget trace.old).memory) × (verdict.new ≡ memory_after verdict_numbers (verified bytes.now budget trace.old).answer verdict.old) × (memo.new ≡ cleared (admitted bytes.now trace.old) memo.old) × TablesAfter (admitted bytes.now trace.old) heads.old nodes.old sets.old heads.new nodes.new sets.new }
 {
     let answer = verify_in(bytes, budget, trace, heads, nodes, sets, memo);
     put_verdict(verdict, answer);
@@ -207,13 +196,13 @@ pub extern "C" fn recovery_verify_in(
 }
 
 // The checker's answer as a number.
-fn checked_number(answer: Checked) -> u8
+fn checked_number(answer: Result<bool, Refusal>) -> u8
     ensures { result ≡ checked_number (checked_of answer) }
 {
     match answer {
-        Checked::Yes => 0,
-        Checked::No => 255,
-        Checked::Refused(r) => reader::number(r),
+        Ok(true) => 0,
+        Ok(false) => 255,
+        Err(refusal) => u8::from(refusal),
     }
 }
 
@@ -234,7 +223,7 @@ pub extern "C" fn recovery_check_in(
     nodes: &mut [u16; NODE_CELLS],
     sets: &mut [u64; SET_WORDS],
 ) -> u8
-    ensures { (Sized heads.old nodes.old sets.old → result ≡ checked_number (checked bytes.now trace.now)) × TablesAfter (reading bytes.now) heads.old nodes.old sets.old heads.new nodes.new sets.new }
+    ensures { (result ≡ checked_number (checked bytes.now trace.now)) × TablesAfter (reading bytes.now) heads.old nodes.old sets.old heads.new nodes.new sets.new }
 {
     checked_number(check_in(bytes, trace, heads, nodes, sets))
 }
@@ -263,7 +252,8 @@ fn lent_record(
     }
 }
 
-// Writes the replies of a record and its lengths.
+// Writes the replies of a record and its lengths. (Here and below an array that is a field goes through a variable: without
+// one the borrow checker doesn't cover the function.)
 fn put_replies(kept: Record, replies: &mut [u8; Record::REPLIES], lengths: &mut [usize; 2])
     ensures { (replies.new ≡ kept.replies) × (lengths.new ≡ lengths_of kept) }
 {
@@ -284,12 +274,10 @@ pub extern "C" fn recovery_load(
     ensures { (result ≡ number_for (reading bytes.now)) × (sheet.new ≡ (loaded bytes.now).sheet) × (replies.new ≡ (loaded bytes.now).replies) × (lengths.new ≡ lengths_of (loaded bytes.now)) }
 {
     let after = Record::load(bytes);
-    let kept = after.kept;
-    let kept_sheet = kept.sheet;
+    let kept_sheet = after.kept.sheet;
     *sheet = kept_sheet;
-    put_replies(kept, replies, lengths);
-    let answer = after.answer;
-    answer_number(answer)
+    put_replies(after.kept, replies, lengths);
+    code(after.answer)
 }
 
 // The same, and the tables of the sheet are written too, as `recovery_prepare` does it.
@@ -306,32 +294,26 @@ pub extern "C" fn recovery_load_in(
     ensures { (result ≡ number_for (reading bytes.now)) × (sheet.new ≡ (loaded bytes.now).sheet) × (replies.new ≡ (loaded bytes.now).replies) × (lengths.new ≡ lengths_of (loaded bytes.now)) × TablesAfter (reading bytes.now) heads.old nodes.old sets.old heads.new nodes.new sets.new }
 {
     let after = Record::load_in(bytes, heads, nodes, sets);
-    let kept = after.kept;
-    let kept_sheet = kept.sheet;
+    let kept_sheet = after.kept.sheet;
     *sheet = kept_sheet;
-    put_replies(kept, replies, lengths);
-    let answer = after.answer;
-    answer_number(answer)
+    put_replies(after.kept, replies, lengths);
+    code(after.answer)
 }
 
-// Writes what is told and gives 0, or gives the number of the refusal.
-fn put_told(told: &mut [usize; 2], answer: Told) -> u8
+// Writes what is told and gives 0, or gives the number of the refusal. (Numbers, since C reads them.)
+fn put_told(told: &mut [usize; 2], answer: Result<Told, Rejection>) -> u8
     ensures { (result ≡ number_for (told_of answer)) × (told.new ≡ memory_after told_numbers (told_of answer) told.old) }
 {
     match answer {
-        Told::BadRecord => runner::number(Rejection::BadRecord),
-        Told::Act(action) => {
+        Ok(Told::Act(action)) => {
             *told = [0, action];
             0
         }
-        Told::End(holds) => {
-            if holds {
-                *told = [1, 1];
-            } else {
-                *told = [1, 0];
-            }
+        Ok(Told::End(holds)) => {
+            *told = [1, holds as usize];
             0
         }
+        Err(rejection) => u8::from(rejection),
     }
 }
 
@@ -348,8 +330,7 @@ pub extern "C" fn recovery_next(
 {
     let record = lent_record(sheet, replies, lengths);
     let after = record.next();
-    let answer = after.answer;
-    put_told(told, answer)
+    put_told(told, after.answer)
 }
 
 // The same in lent tables, which then hold those of the record's sheet; they are left as they were where it is refused.
@@ -363,22 +344,11 @@ pub extern "C" fn recovery_next_in(
     nodes: &mut [u16; NODE_CELLS],
     sets: &mut [u64; SET_WORDS],
 ) -> u8
-    ensures { (Sized heads.old nodes.old sets.old → (result ≡ number_for (next_on (lent_record sheet.now replies.now lengths.now))) × (told.new ≡ memory_after told_numbers (next_on (lent_record sheet.now replies.now lengths.now)) told.old)) × TablesAfter (sheet_in (lent_record sheet.now replies.now lengths.now)) heads.old nodes.old sets.old heads.new nodes.new sets.new }
+    ensures { (result ≡ number_for (next_on (lent_record sheet.now replies.now lengths.now))) × (told.new ≡ memory_after told_numbers (next_on (lent_record sheet.now replies.now lengths.now)) told.old) × TablesAfter (sheet_in (lent_record sheet.now replies.now lengths.now)) heads.old nodes.old sets.old heads.new nodes.new sets.new }
 {
     let record = lent_record(sheet, replies, lengths);
     let after = record.next_in(heads, nodes, sets);
-    let answer = after.answer;
-    put_told(told, answer)
-}
-
-// The number of the answer to a report.
-fn report_number(answer: Reported) -> u8
-    ensures { result ≡ number_for (reported_of answer) }
-{
-    match answer {
-        Reported::Accepted => 0,
-        Reported::Refused(why) => runner::number(why),
-    }
+    put_told(told, after.answer)
 }
 
 // Adds a reply to the record and gives 0, or gives the number of the refusal, 31 to 34, and the record is left as it was.
@@ -393,10 +363,8 @@ pub extern "C" fn recovery_report(
 {
     let record = lent_record(sheet, replies, lengths);
     let after = record.report(reply);
-    let kept = after.kept;
-    put_replies(kept, replies, lengths);
-    let answer = after.answer;
-    report_number(answer)
+    put_replies(after.kept, replies, lengths);
+    code(after.answer)
 }
 
 // The same in lent tables, which then hold those of the record's sheet; they are left as they were where it is refused.
@@ -410,25 +378,16 @@ pub extern "C" fn recovery_report_in(
     nodes: &mut [u16; NODE_CELLS],
     sets: &mut [u64; SET_WORDS],
 ) -> u8
-    ensures { (Sized heads.old nodes.old sets.old → (result ≡ number_for (report_on (lent_record sheet.now replies.old lengths.old) reply)) × (replies.new ≡ (record_after (lent_record sheet.now replies.old lengths.old) reply).replies) × (lengths.new ≡ lengths_of (record_after (lent_record sheet.now replies.old lengths.old) reply))) × TablesAfter (sheet_in (lent_record sheet.now replies.old lengths.old)) heads.old nodes.old sets.old heads.new nodes.new sets.new }
+    ensures { (result ≡ number_for (report_on (lent_record sheet.now replies.old lengths.old) reply)) × (replies.new ≡ (record_after (lent_record sheet.now replies.old lengths.old) reply).replies) × (lengths.new ≡ lengths_of (record_after (lent_record sheet.now replies.old lengths.old) reply)) × TablesAfter (sheet_in (lent_record sheet.now replies.old lengths.old)) heads.old nodes.old sets.old heads.new nodes.new sets.new }
 {
     let record = lent_record(sheet, replies, lengths);
     let after = record.report_in(reply, heads, nodes, sets);
-    let kept = after.kept;
-    put_replies(kept, replies, lengths);
-    let answer = after.answer;
-    report_number(answer)
+    put_replies(after.kept, replies, lengths);
+    code(after.answer)
 }
 
 // The numbers of a stream's state: its figures, the lengths that are read with their sheets, and the bytes that are begun.
 pub const STATE: usize = Figures::NUMBERS + 2;
-
-// A number of bytes. (What is read from lent memory has its bound here, as a parameter.)
-fn byte_count(n: u64) -> usize
-    ensures { result ≡ n }
-{
-    n as usize
-}
 
 // The state of a stream that lent memory holds.
 fn lent_release(numbers: &[u64; STATE], begun: &[u8; Begun::BYTES]) -> Release
@@ -442,15 +401,14 @@ fn lent_release(numbers: &[u64; STATE], begun: &[u8; Begun::BYTES]) -> Release
         sum: numbers[4],
         greatest: numbers[5],
     };
-    let held = byte_count(numbers[7]);
-    let kept = Begun {
-        held: held,
-        bytes: *begun,
-    };
+    let held = numbers[7] as usize;
     Release {
-        figures: figures,
+        figures,
         lengths: numbers[6],
-        begun: kept,
+        begun: Begun {
+            held,
+            bytes: *begun,
+        },
     }
 }
 
@@ -459,8 +417,6 @@ fn put_release(state: Release, numbers: &mut [u64; STATE], begun: &mut [u8; Begu
     ensures { (numbers.new ≡ release_numbers state) × (begun.new ≡ state.begun.bytes) }
 {
     let figures = state.figures;
-    let kept = state.begun;
-    let bytes = kept.bytes;
     *numbers = [
         figures.valid,
         figures.invalid,
@@ -469,8 +425,9 @@ fn put_release(state: Release, numbers: &mut [u64; STATE], begun: &mut [u8; Begu
         figures.sum,
         figures.greatest,
         state.lengths,
-        kept.held as u64,
+        state.begun.held as u64,
     ];
+    let bytes = state.begun.bytes;
     *begun = bytes;
 }
 
@@ -487,12 +444,12 @@ pub extern "C" fn recovery_figures_feed(
     sets: &mut [u64; SET_WORDS],
     memo: &mut [u64; MEMO_WORDS],
 ) -> u8
-    ensures { (Sized heads.old nodes.old sets.old → (result ≡ flag_number (is_done (fed (lent_release numbers.old begun.old) piece.now))) × (numbers.new ≡ release_numbers (fed (lent_release numbers.old begun.old) piece.now)) × (begun.new ≡ (fed (lent_release numbers.old begun.old) piece.now).begun.bytes)) × (memo.new ≡ cleared_all (read_by (lent_release numbers.old begun.old) piece.now) memo.old) × TablesAfterAll (read_by (lent_release numbers.old begun.old) piece.now) heads.old nodes.old sets.old heads.new nodes.new sets.new }
+    ensures { (result ≡ flag_number (is_done (fed (lent_release numbers.old begun.old) piece.now))) × (numbers.new ≡ release_numbers (fed (lent_release numbers.old begun.old) piece.now)) × (begun.new ≡ (fed (lent_release numbers.old begun.old) piece.now).begun.bytes) × (memo.new ≡ cleared_all (read_by (lent_release numbers.old begun.old) piece.now) memo.old) × TablesAfterAll (read_by (lent_release numbers.old begun.old) piece.now) heads.old nodes.old sets.old heads.new nodes.new sets.new }
 {
     let state = lent_release(numbers, begun);
     let after = state.feed(piece, heads, nodes, sets, memo);
     put_release(after, numbers, begun);
-    flag(after.is_done())
+    after.is_done() as u8
 }
 
 // Writes the six figures of a stream that ends where its state stands: what is begun then is cut, and refused.

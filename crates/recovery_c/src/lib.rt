@@ -10,7 +10,6 @@ ghost use Rattle.semantics.specs.Checker.{checked};
 ghost use Rattle.semantics.specs.Printing.{most_lines, printed, numbers_line};
 ghost use Rattle.states.specs.Sets.{words, of_words};
 ghost use Rattle.lists.specs.Lists.{write};
-ghost use Rattle.routine.specs.Memory.{Sized};
 ghost use Rattle.routine.specs.Tables.{TablesAfter};
 ghost use Rattle.progression.specs.Machine.{stepped, passed_by, settled, known_by, Inside};
 ghost use Rattle.verifier.specs.Answers.{cleared};
@@ -138,7 +137,7 @@ pub extern "C" fn recovery_verify_in(
     sets: &mut [u64; SET_WORDS],
     memo: &mut [u64; MEMO_WORDS],
 ) -> u8
-    ensures { (Sized heads.old nodes.old sets.old → (result ≡ number_for (verified bytes.now budget trace.old).answer) × (trace.new ≡ (verified bytes.now budget trace.old).memory) × (verdict.new ≡ memory_after verdict_numbers (verified bytes.now budget trace.old).answer verdict.old)) × (memo.new ≡ cleared (admitted bytes.now trace.old) memo.old) × TablesAfter (admitted bytes.now trace.old) heads.old nodes.old sets.old heads.new nodes.new sets.new }
+    ensures { (result ≡ number_for (verified bytes.now budget trace.old).answer) × (trace.new ≡ (verified bytes.now budget trace.old).memory) × (verdict.new ≡ memory_after verdict_numbers (verified bytes.now budget trace.old).answer verdict.old) × (memo.new ≡ cleared (admitted bytes.now trace.old) memo.old) × TablesAfter (admitted bytes.now trace.old) heads.old nodes.old sets.old heads.new nodes.new sets.new }
 {
     recovery::recovery_verify_in(bytes, budget, trace, verdict, heads, nodes, sets, memo)
 }
@@ -160,7 +159,7 @@ pub extern "C" fn recovery_check_in(
     nodes: &mut [u16; NODE_CELLS],
     sets: &mut [u64; SET_WORDS],
 ) -> u8
-    ensures { (Sized heads.old nodes.old sets.old → result ≡ checked_number (checked bytes.now trace.now)) × TablesAfter (reading bytes.now) heads.old nodes.old sets.old heads.new nodes.new sets.new }
+    ensures { (result ≡ checked_number (checked bytes.now trace.now)) × TablesAfter (reading bytes.now) heads.old nodes.old sets.old heads.new nodes.new sets.new }
 {
     recovery::recovery_check_in(bytes, trace, heads, nodes, sets)
 }
@@ -228,7 +227,7 @@ pub extern "C" fn recovery_next_in(
     nodes: &mut [u16; NODE_CELLS],
     sets: &mut [u64; SET_WORDS],
 ) -> u8
-    ensures { (Sized heads.old nodes.old sets.old → (result ≡ number_for (next_on (lent_record sheet.now replies.now lengths.now))) × (told.new ≡ memory_after told_numbers (next_on (lent_record sheet.now replies.now lengths.now)) told.old)) × TablesAfter (sheet_in (lent_record sheet.now replies.now lengths.now)) heads.old nodes.old sets.old heads.new nodes.new sets.new }
+    ensures { (result ≡ number_for (next_on (lent_record sheet.now replies.now lengths.now))) × (told.new ≡ memory_after told_numbers (next_on (lent_record sheet.now replies.now lengths.now)) told.old) × TablesAfter (sheet_in (lent_record sheet.now replies.now lengths.now)) heads.old nodes.old sets.old heads.new nodes.new sets.new }
 {
     recovery::recovery_next_in(sheet, replies, lengths, told, heads, nodes, sets)
 }
@@ -257,7 +256,7 @@ pub extern "C" fn recovery_report_in(
     nodes: &mut [u16; NODE_CELLS],
     sets: &mut [u64; SET_WORDS],
 ) -> u8
-    ensures { (Sized heads.old nodes.old sets.old → (result ≡ number_for (report_on (lent_record sheet.now replies.old lengths.old) reply)) × (replies.new ≡ (record_after (lent_record sheet.now replies.old lengths.old) reply).replies) × (lengths.new ≡ lengths_of (record_after (lent_record sheet.now replies.old lengths.old) reply))) × TablesAfter (sheet_in (lent_record sheet.now replies.old lengths.old)) heads.old nodes.old sets.old heads.new nodes.new sets.new }
+    ensures { (result ≡ number_for (report_on (lent_record sheet.now replies.old lengths.old) reply)) × (replies.new ≡ (record_after (lent_record sheet.now replies.old lengths.old) reply).replies) × (lengths.new ≡ lengths_of (record_after (lent_record sheet.now replies.old lengths.old) reply)) × TablesAfter (sheet_in (lent_record sheet.now replies.old lengths.old)) heads.old nodes.old sets.old heads.new nodes.new sets.new }
 {
     recovery::recovery_report_in(sheet, replies, lengths, reply, heads, nodes, sets)
 }
@@ -275,7 +274,7 @@ pub extern "C" fn recovery_figures_feed(
     sets: &mut [u64; SET_WORDS],
     memo: &mut [u64; MEMO_WORDS],
 ) -> u8
-    ensures { (Sized heads.old nodes.old sets.old → (result ≡ flag_number (is_done (fed (lent_release numbers.old begun.old) piece.now))) × (numbers.new ≡ release_numbers (fed (lent_release numbers.old begun.old) piece.now)) × (begun.new ≡ (fed (lent_release numbers.old begun.old) piece.now).begun.bytes)) × (memo.new ≡ cleared_all (read_by (lent_release numbers.old begun.old) piece.now) memo.old) × TablesAfterAll (read_by (lent_release numbers.old begun.old) piece.now) heads.old nodes.old sets.old heads.new nodes.new sets.new }
+    ensures { (result ≡ flag_number (is_done (fed (lent_release numbers.old begun.old) piece.now))) × (numbers.new ≡ release_numbers (fed (lent_release numbers.old begun.old) piece.now)) × (begun.new ≡ (fed (lent_release numbers.old begun.old) piece.now).begun.bytes) × (memo.new ≡ cleared_all (read_by (lent_release numbers.old begun.old) piece.now) memo.old) × TablesAfterAll (read_by (lent_release numbers.old begun.old) piece.now) heads.old nodes.old sets.old heads.new nodes.new sets.new }
 {
     recovery::recovery_figures_feed(piece, numbers, begun, heads, nodes, sets, memo)
 }

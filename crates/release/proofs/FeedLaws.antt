@@ -1,6 +1,7 @@
 -- Feeding a piece: what stays true while its sheets are counted, and what is left behind the last. Assumes nothing.
-use Rattle.std.proofs.Common.{◌≡◌, ℕ, zero, suc, ◌+◌, ◌-◌, ◌^◌, ◌<◌, ◌≤◌, List, [], ◌∷◌, ◌++◌, length, take, drop, sym, refl, ap, ◌∙◌, subst, ⊎_elim, append_assoc, append-nil, arith, length-drop, take-append-drop, drop_of_length-le, length-take-le, get_or-take, drop-drop, ext_get_or}
+use Rattle.std.proofs.Common.{◌≡◌, ℕ, zero, suc, ◌+◌, ◌-◌, ◌^◌, ◌<◌, ◌≤◌, List, [], ◌∷◌, ◌++◌, length, take, drop, sym, refl, ap, ◌∙◌, subst, ⊎_elim, append_assoc, append-nil, arith, length-drop, length-take-le, get_or-take, ext_get_or}
 use lib.Seq.{take-nil}
+use Rattle.std.specs.Prelude.{Result, Err}
 use Rattle.format.specs.Syntax.{Sheet}
 use Rattle.format.specs.Format.{Answer, refused, on_accepted, given_or, reading}
 use Rattle.reader.specs.declared.refusal.Refusal.{Refusal}
@@ -9,75 +10,48 @@ use Rattle.semantics.specs.Verdict.{verdict_of, outcome_of, LongEnough, admitted
 use Rattle.semantics.proofs.MemoryLaws.{admitted_long}
 use Rattle.semantics.proofs.FigureLaws.{reading_long, answer_is}
 use Rattle.semantics.specs.Figures.{most_lengths, cuts, release_budget, answer_to}
-use Rattle.routine.specs.Memory.{Sized}
 use Rattle.routine.specs.Tables.{prepared, sheet_heads, node_cells, set_words, TablesAfter}
-use Rattle.routine.proofs.FitLaws.{prepared_length}
 use Rattle.verifier.specs.declared.verdict.Verdict.{Verdict}
+use Rattle.verifier.specs.declared.verdict.VerifyError.{VerifyError}
 use Rattle.verifier.specs.Answers.{answer_of, verified_by, cleared}
 use Rattle.verifier.proofs.AnswerLaws.{parts}
 use Rattle.release.specs.declared.figures.Figures.{Figures}
 use Rattle.release.specs.declared.framing.Begun.{Begun}
-use Rattle.release.specs.declared.framing.Filled.{Filled}
 use Rattle.release.specs.declared.feeding.Release.{Release}
 use Rattle.release.specs.Counting.{no_figures, plus, counted_one, with_cut}
 use Rattle.release.specs.Framing.{first_of, most_begun, size_of, begun_of, opened}
-use Rattle.release.specs.Filling.{gathered, with_more, FilledUp}
+use Rattle.release.specs.Filling.{gathered, FilledUp}
 use Rattle.release.specs.Feeding.{standing, onward, fed, state_of, ended, read_by, prepared_all, cleared_all, TablesAfterAll}
 use Rattle.release.proofs.FramingLaws.{begun_none, first_length, first_get, size_first, size_least, opened_length, held_some, held_none}
 use Rattle.release.proofs.CountLaws.{plus_none}
 use Rattle.release.proofs.StreamLaws.{read_from, onward_done, onward_cut, onward_whole, read_done, read_cut, read_whole, state_on}
 
--- Tables keep their lengths.
-still_sized : (sheet : Answer Sheet) (heads nodes sets heads' nodes' sets' : List ℕ) → TablesAfter sheet heads nodes sets heads' nodes' sets'
-    → Sized heads nodes sets → Sized heads' nodes' sets'
-still_sized sheet heads nodes sets heads' nodes' sets' t z = (
-  ap (length {A = ℕ}) t.0 ∙ prepared_length sheet_heads sheet heads ∙ z.0,
-  ap (length {A = ℕ}) t.1 ∙ prepared_length node_cells sheet nodes ∙ z.1,
-  ap (length {A = ℕ}) t.2 ∙ prepared_length set_words sheet sets ∙ z.2,
-)
-
--- The bytes of a piece that are left, and those that were taken of it.
-rest_same : (o piece : List ℕ) (at to : ℕ) → at ≤ to → with_more o piece at to ++ drop to piece ≡ o ++ drop at piece
-unfolding with_more
-rest_same o piece at to h =
-    let there : at + (to - at) ≡ to = omega (arith, h) in
-    append_assoc o (take (to - at) (drop at piece)) (drop to piece)
-    ∙ ap (λ (z : List ℕ). o ++ (take (to - at) (drop at piece) ++ z)) (sym (drop-drop (to - at) at piece ∙ ap (λ (n : ℕ). drop n piece) there))
-    ∙ ap (λ (z : List ℕ). o ++ z) (take-append-drop (to - at) (drop at piece))
-
--- What is left of a piece, from the place where its bytes are counted so far, gives what the whole piece gives.
-pub record Going (o₀ piece heads₀ nodes₀ sets₀ memo₀ : List ℕ) (figures₀ : Figures) (lengths₀ : ℕ) (heads nodes sets memo : List ℕ) (figures : Figures) (lengths : ℕ) (begun : Begun) (at : ℕ) : Type 0 where
+-- What is left of a piece behind the bytes that are counted so far gives what the whole piece gives.
+pub record Going (o₀ piece heads₀ nodes₀ sets₀ memo₀ : List ℕ) (figures₀ : Figures) (lengths₀ : ℕ) (heads nodes sets memo : List ℕ) (figures : Figures) (lengths : ℕ) (begun : Begun) (rest : List ℕ) : Type 0 where
   pub bytes : List ℕ
   pub kept : begun ≡ gathered bytes
   pub within : length bytes ≤ size_of bytes
-  pub inside : at ≤ length piece
-  pub sized : Sized heads₀ nodes₀ sets₀ → Sized heads nodes sets
-  pub state : Sized heads₀ nodes₀ sets₀ → onward figures lengths (bytes ++ drop at piece) ≡ onward figures₀ lengths₀ (o₀ ++ piece)
-  pub heads_left : prepared_all sheet_heads (read_from lengths (bytes ++ drop at piece)) heads ≡ prepared_all sheet_heads (read_from lengths₀ (o₀ ++ piece)) heads₀
-  pub nodes_left : prepared_all node_cells (read_from lengths (bytes ++ drop at piece)) nodes ≡ prepared_all node_cells (read_from lengths₀ (o₀ ++ piece)) nodes₀
-  pub sets_left : prepared_all set_words (read_from lengths (bytes ++ drop at piece)) sets ≡ prepared_all set_words (read_from lengths₀ (o₀ ++ piece)) sets₀
-  pub memo_stays : cleared_all (read_from lengths (bytes ++ drop at piece)) memo ≡ cleared_all (read_from lengths₀ (o₀ ++ piece)) memo₀
-
-pub going_start : (o piece heads nodes sets memo : List ℕ) (figures : Figures) (lengths : ℕ) (begun : Begun) → begun ≡ gathered o → length o ≤ size_of o
-    → Going o piece heads nodes sets memo figures lengths heads nodes sets memo figures lengths begun 0
-going_start o piece heads nodes sets memo figures lengths begun e within =
-    record { bytes = o; kept = e; within = within; inside = omega arith; sized = λ z. z; state = λ z. refl; heads_left = refl; nodes_left = refl; sets_left = refl; memo_stays = refl }
+  pub state : onward figures lengths (bytes ++ rest) ≡ onward figures₀ lengths₀ (o₀ ++ piece)
+  pub heads_left : prepared_all sheet_heads (read_from lengths (bytes ++ rest)) heads ≡ prepared_all sheet_heads (read_from lengths₀ (o₀ ++ piece)) heads₀
+  pub nodes_left : prepared_all node_cells (read_from lengths (bytes ++ rest)) nodes ≡ prepared_all node_cells (read_from lengths₀ (o₀ ++ piece)) nodes₀
+  pub sets_left : prepared_all set_words (read_from lengths (bytes ++ rest)) sets ≡ prepared_all set_words (read_from lengths₀ (o₀ ++ piece)) sets₀
+  pub memo_stays : cleared_all (read_from lengths (bytes ++ rest)) memo ≡ cleared_all (read_from lengths₀ (o₀ ++ piece)) memo₀
 
 -- What was answered for a whole sheet.
-abbrev pub Answered : (bytes : List ℕ) (r : Verdict) (heads nodes sets memo heads' nodes' sets' memo' : List ℕ) → Type 0
+abbrev pub Answered : (bytes : List ℕ) (r : Result Verdict VerifyError) (heads nodes sets memo heads' nodes' sets' memo' : List ℕ) → Type 0
 Answered bytes r heads nodes sets memo heads' nodes' sets' memo' =
-    (Sized heads nodes sets → answer_of r ≡ answer_to (reading (drop 2 bytes))) × (memo' ≡ cleared (reading (drop 2 bytes)) memo)
+    (answer_of r ≡ answer_to (reading (drop 2 bytes))) × (memo' ≡ cleared (reading (drop 2 bytes)) memo)
     × TablesAfter (reading (drop 2 bytes)) heads nodes sets heads' nodes' sets'
 
-module _ {o₀ piece heads₀ nodes₀ sets₀ memo₀ : List ℕ} {figures₀ : Figures} {lengths₀ : ℕ} {heads nodes sets memo : List ℕ} {figures : Figures} {lengths : ℕ} {begun : Begun} {at : ℕ}
-    (g : Going o₀ piece heads₀ nodes₀ sets₀ memo₀ figures₀ lengths₀ heads nodes sets memo figures lengths begun at) where
+module _ {o₀ piece heads₀ nodes₀ sets₀ memo₀ : List ℕ} {figures₀ : Figures} {lengths₀ : ℕ} {heads nodes sets memo : List ℕ} {figures : Figures} {lengths : ℕ} {begun : Begun} {rest : List ℕ}
+    (g : Going o₀ piece heads₀ nodes₀ sets₀ memo₀ figures₀ lengths₀ heads nodes sets memo figures lengths begun rest) where
   -- No more lengths are read.
   module _ (done : most_lengths ≤ lengths) where
-    pub done_state : (r : Release) → r ≡ standing figures lengths [] → Sized heads₀ nodes₀ sets₀ → r ≡ onward figures₀ lengths₀ (o₀ ++ piece)
-    done_state r e z = e ∙ sym (onward_done figures lengths (g.bytes ++ drop at piece) done) ∙ g.state z
+    pub done_state : (r : Release) → r ≡ standing figures lengths [] → r ≡ onward figures₀ lengths₀ (o₀ ++ piece)
+    done_state r e = e ∙ sym (onward_done figures lengths (g.bytes ++ rest) done) ∙ g.state
 
-    none_read : read_from lengths (g.bytes ++ drop at piece) ≡ []
-    none_read = read_done lengths (g.bytes ++ drop at piece) done
+    none_read : read_from lengths (g.bytes ++ rest) ≡ []
+    none_read = read_done lengths (g.bytes ++ rest) done
 
     pub done_memo : memo ≡ cleared_all (read_from lengths₀ (o₀ ++ piece)) memo₀
     unfolding cleared_all
@@ -92,42 +66,40 @@ module _ {o₀ piece heads₀ nodes₀ sets₀ memo₀ : List ℕ} {figures₀ :
     )
 
   -- The piece is filled in, up to a whole sheet or to its end.
-  module _ (more : lengths < most_lengths) (r : Filled) (f : FilledUp g.bytes piece at r) where
+  module _ (more : lengths < most_lengths) (r : Begun) (rest' : List ℕ) (f : FilledUp g.bytes rest r rest') where
     abbrev pub filled : List ℕ
-    filled = with_more g.bytes piece at r.at
+    filled = g.bytes ++ f.taken
 
-    same_rest : filled ++ drop r.at piece ≡ g.bytes ++ drop at piece
-    same_rest = rest_same g.bytes piece at r.at f.forward
+    same_rest : filled ++ rest' ≡ g.bytes ++ rest
+    same_rest = append_assoc g.bytes f.taken rest' ∙ ap (λ (z : List ℕ). g.bytes ++ z) f.split
 
     -- What the code sees of it.
-    held_is : r.begun.held ≡ length filled
+    held_is : r.held ≡ length filled
     held_is = ap (λ (b : Begun). b.held) f.added ∙ unfold gathered in refl
 
-    size_is : size_of r.begun.bytes ≡ size_of filled
+    size_is : size_of r.bytes ≡ size_of filled
     size_is = ap (λ (b : Begun). size_of b.bytes) f.added ∙ unfold gathered in (size_first most_begun filled (omega arith))
 
-    pub is_short : (size : ℕ) → size ≡ size_of r.begun.bytes → r.begun.held < size → length filled < size_of filled
+    pub is_short : (size : ℕ) → size ≡ size_of r.bytes → r.held < size → length filled < size_of filled
     is_short size e h = omega (arith, h, e, held_is, size_is)
 
-    pub is_not : (size : ℕ) → size ≡ size_of r.begun.bytes → size ≤ r.begun.held → size_of filled ≤ length filled
+    pub is_not : (size : ℕ) → size ≡ size_of r.bytes → size ≤ r.held → size_of filled ≤ length filled
     is_not size e h = omega (arith, h, e, held_is, size_is)
 
     -- Not whole: the piece has ended.
     module _ (short : length filled < size_of filled) where
-      at_end : r.at ≡ length piece
-      at_end = ⊎_elim (λ (z : length filled ≡ size_of filled). absurd (omega (arith, z, short))) (λ (z : r.at ≡ length piece). z) f.full
+      at_end : rest' ≡ []
+      at_end = ⊎_elim (λ (z : length filled ≡ size_of filled). absurd (omega (arith, z, short))) (λ (z : rest' ≡ []). z) f.full
 
-      all_in : g.bytes ++ drop at piece ≡ filled
-      all_in =
-          let past : length piece ≤ r.at = omega (arith, at_end) in
-          sym same_rest ∙ ap (λ (z : List ℕ). filled ++ z) (drop_of_length-le piece past) ∙ append-nil filled
+      all_in : g.bytes ++ rest ≡ filled
+      all_in = sym same_rest ∙ ap (λ (z : List ℕ). filled ++ z) at_end ∙ append-nil filled
 
-      pub cut_state : (b : Begun) → b ≡ begun_of filled → (s : Release) → s ≡ record { figures = figures; lengths = lengths; begun = b } → Sized heads₀ nodes₀ sets₀ → s ≡ onward figures₀ lengths₀ (o₀ ++ piece)
-      cut_state b stored s e z =
+      pub cut_state : (b : Begun) → b ≡ begun_of filled → (s : Release) → s ≡ record { figures = figures; lengths = lengths; begun = b } → s ≡ onward figures₀ lengths₀ (o₀ ++ piece)
+      cut_state b stored s e =
           e ∙ unfold standing in (ap (λ (x : Begun). record { figures = figures; lengths = lengths; begun = x }) stored)
-          ∙ sym (ap (onward figures lengths) all_in ∙ onward_cut figures lengths filled more short) ∙ g.state z
+          ∙ sym (ap (onward figures lengths) all_in ∙ onward_cut figures lengths filled more short) ∙ g.state
 
-      none_cut : read_from lengths (g.bytes ++ drop at piece) ≡ []
+      none_cut : read_from lengths (g.bytes ++ rest) ≡ []
       none_cut = ap (read_from lengths) all_in ∙ read_cut lengths filled more short
 
       pub cut_memo : memo ≡ cleared_all (read_from lengths₀ (o₀ ++ piece)) memo₀
@@ -147,35 +119,33 @@ module _ {o₀ piece heads₀ nodes₀ sets₀ memo₀ : List ℕ} {figures₀ :
       pub all_there : length filled ≡ size_of filled
       all_there = let m = f.most in omega (arith, not_IsShort, m)
 
-      read_next : read_from lengths (g.bytes ++ drop at piece) ≡ reading (drop 2 filled) ∷ read_from (lengths + 1) (drop r.at piece)
-      read_next = ap (read_from lengths) (sym same_rest) ∙ read_whole lengths filled (drop r.at piece) more all_there
+      read_next : read_from lengths (g.bytes ++ rest) ≡ reading (drop 2 filled) ∷ read_from (lengths + 1) (rest')
+      read_next = ap (read_from lengths) (sym same_rest) ∙ read_whole lengths filled (rest') more all_there
 
-      module _ (answer : Verdict) {heads' nodes' sets' memo' : List ℕ} (a : Answered filled answer heads nodes sets memo heads' nodes' sets' memo')
+      module _ (answer : Result Verdict VerifyError) {heads' nodes' sets' memo' : List ℕ} (a : Answered filled answer heads nodes sets memo heads' nodes' sets' memo')
           (figures' : Figures) (counts : figures' ≡ counted_one figures (answer_of answer)) (begun' : Begun) (none : begun' ≡ gathered []) where
-        counted_on : Sized heads₀ nodes₀ sets₀ → onward figures' (lengths + 1) (drop r.at piece) ≡ onward figures₀ lengths₀ (o₀ ++ piece)
-        counted_on z =
-            ap (λ (h : Figures). onward h (lengths + 1) (drop r.at piece)) (counts ∙ ap (counted_one figures) (a.0 (g.sized z)))
-            ∙ sym (onward_whole figures lengths filled (drop r.at piece) more all_there)
-            ∙ ap (onward figures lengths) same_rest ∙ g.state z
+        counted_on : onward figures' (lengths + 1) (rest') ≡ onward figures₀ lengths₀ (o₀ ++ piece)
+        counted_on =
+            ap (λ (h : Figures). onward h (lengths + 1) (rest')) (counts ∙ ap (counted_one figures) a.0)
+            ∙ sym (onward_whole figures lengths filled (rest') more all_there)
+            ∙ ap (onward figures lengths) same_rest ∙ g.state
 
         table_on : (has : Sheet → List ℕ) (t t' last : List ℕ) → t' ≡ prepared has (reading (drop 2 filled)) t
-            → prepared_all has (read_from lengths (g.bytes ++ drop at piece)) t ≡ last → prepared_all has (read_from (lengths + 1) (drop r.at piece)) t' ≡ last
+            → prepared_all has (read_from lengths (g.bytes ++ rest)) t ≡ last → prepared_all has (read_from (lengths + 1) (rest')) t' ≡ last
         unfolding prepared_all
         table_on has t t' last e w =
-            ap (prepared_all has (read_from (lengths + 1) (drop r.at piece))) e ∙ sym (ap (λ (zs : List (Answer Sheet)). prepared_all has zs t) read_next) ∙ w
+            ap (prepared_all has (read_from (lengths + 1) (rest'))) e ∙ sym (ap (λ (zs : List (Answer Sheet)). prepared_all has zs t) read_next) ∙ w
 
-        memo_on : cleared_all (read_from (lengths + 1) (drop r.at piece)) memo' ≡ cleared_all (read_from lengths₀ (o₀ ++ piece)) memo₀
+        memo_on : cleared_all (read_from (lengths + 1) (rest')) memo' ≡ cleared_all (read_from lengths₀ (o₀ ++ piece)) memo₀
         unfolding cleared_all
         memo_on =
-            ap (cleared_all (read_from (lengths + 1) (drop r.at piece))) a.1 ∙ sym (ap (λ (zs : List (Answer Sheet)). cleared_all zs memo) read_next) ∙ g.memo_stays
+            ap (cleared_all (read_from (lengths + 1) (rest'))) a.1 ∙ sym (ap (λ (zs : List (Answer Sheet)). cleared_all zs memo) read_next) ∙ g.memo_stays
 
-        pub going_next : Going o₀ piece heads₀ nodes₀ sets₀ memo₀ figures₀ lengths₀ heads' nodes' sets' memo' figures' (lengths + 1) begun' r.at
+        pub going_next : Going o₀ piece heads₀ nodes₀ sets₀ memo₀ figures₀ lengths₀ heads' nodes' sets' memo' figures' (lengths + 1) begun' rest'
         going_next = record {
           bytes = [];
           kept = none;
           within = let s = size_least [] in omega (arith, s);
-          inside = f.within;
-          sized = λ z. still_sized (reading (drop 2 filled)) heads nodes sets heads' nodes' sets' a.2 (g.sized z);
           state = counted_on;
           heads_left = table_on sheet_heads heads heads' _ a.2.0 g.heads_left;
           nodes_left = table_on node_cells nodes nodes' _ a.2.1 g.nodes_left;
@@ -190,14 +160,14 @@ standing_none f lengths b e = ap (λ (x : Begun). record { figures = f; lengths 
 
 -- What was promised of the whole piece.
 pub fed_promise : (self r : Release) (piece heads nodes sets memo heads' nodes' sets' memo' : List ℕ)
-    → (Sized heads nodes sets → r ≡ onward self.figures self.lengths (opened self.begun ++ piece))
+    → r ≡ onward self.figures self.lengths (opened self.begun ++ piece)
     → memo' ≡ cleared_all (read_from self.lengths (opened self.begun ++ piece)) memo
     → TablesAfterAll (read_from self.lengths (opened self.begun ++ piece)) heads nodes sets heads' nodes' sets'
-    → (Sized heads nodes sets → (r ≡ fed self piece) × ((stream : List ℕ) → self ≡ state_of stream → r ≡ state_of (stream ++ piece)))
+    → (r ≡ fed self piece) × ((stream : List ℕ) → self ≡ state_of stream → r ≡ state_of (stream ++ piece))
     × (memo' ≡ cleared_all (read_by self piece) memo) × TablesAfterAll (read_by self piece) heads nodes sets heads' nodes' sets'
 unfolding fed read_by
 fed_promise self r piece heads nodes sets memo heads' nodes' sets' memo' s m t =
-    (λ z. (s z, λ stream e. s z ∙ ap (λ (x : Release). fed x piece) e ∙ state_on stream piece), m, t)
+    (s, λ stream e. s ∙ ap (λ (x : Release). fed x piece) e ∙ state_on stream piece, m, t)
 
 -- The state of no bytes, and that at the end.
 pub state_none : state_of [] ≡ record { figures = no_figures; lengths = 0; begun = gathered [] }
@@ -257,19 +227,19 @@ long_read : (bytes : List ℕ) → length bytes ≡ size_of bytes → most_begun
 long_read bytes all long = reading_long (drop 2 bytes) (omega (arith, length-drop 2 bytes, all, long))
 
 pub answered_long : (bytes heads nodes sets memo : List ℕ) → length bytes ≡ size_of bytes → most_begun < size_of bytes
-    → Answered bytes (Verdict.Refused Refusal.Length) heads nodes sets memo heads nodes sets memo
+    → Answered bytes (Err (VerifyError.Refused Refusal.Length)) heads nodes sets memo heads nodes sets memo
 answered_long bytes heads nodes sets memo all long =
-    subst (λ (a : Answer Sheet). (Sized heads nodes sets → answer_of (Verdict.Refused Refusal.Length) ≡ answer_to a) × (memo ≡ cleared a memo) × TablesAfter a heads nodes sets heads nodes sets)
+    subst (λ (a : Answer Sheet). (answer_of (Err (VerifyError.Refused Refusal.Length)) ≡ answer_to a) × (memo ≡ cleared a memo) × TablesAfter a heads nodes sets heads nodes sets)
     (sym (long_read bytes all long)) (refused_one heads nodes sets memo)
   where
     refused_one : (heads nodes sets memo : List ℕ)
-        → (Sized heads nodes sets → answer_of (Verdict.Refused Refusal.Length) ≡ answer_to (refused 1)) × (memo ≡ cleared (refused 1) memo) × TablesAfter (refused 1) heads nodes sets heads nodes sets
-    refused_one heads nodes sets memo = unfold answer_of number_of answer_to verdict_of outcome_of on_accepted cleared prepared given_or in (λ z. refl, refl, (refl, refl, refl))
+        → (answer_of (Err (VerifyError.Refused Refusal.Length)) ≡ answer_to (refused 1)) × (memo ≡ cleared (refused 1) memo) × TablesAfter (refused 1) heads nodes sets heads nodes sets
+    refused_one heads nodes sets memo = unfold answer_of number_of answer_to verdict_of outcome_of on_accepted cleared prepared given_or in (refl, refl, (refl, refl, refl))
 
-pub answered_verified : (bytes sheet old : List ℕ) (r : Verdict) (trace heads nodes sets memo heads' nodes' sets' memo' : List ℕ) → sheet ≡ drop 2 bytes → LongEnough old
-    → (Sized heads nodes sets → verified_by r trace ≡ verified sheet release_budget old) → memo' ≡ cleared (admitted sheet old) memo
+pub answered_verified : (bytes sheet old : List ℕ) (r : Result Verdict VerifyError) (trace heads nodes sets memo heads' nodes' sets' memo' : List ℕ) → sheet ≡ drop 2 bytes → LongEnough old
+    → verified_by r trace ≡ verified sheet release_budget old → memo' ≡ cleared (admitted sheet old) memo
     → TablesAfter (admitted sheet old) heads nodes sets heads' nodes' sets' → Answered bytes r heads nodes sets memo heads' nodes' sets' memo'
 answered_verified bytes sheet old r trace heads nodes sets memo heads' nodes' sets' memo' e long v m t =
     let read : admitted sheet old ≡ reading (drop 2 bytes) = admitted_long sheet old long ∙ ap reading e in
     let answer : (verified sheet release_budget old).answer ≡ answer_to (reading (drop 2 bytes)) = answer_is sheet old (reading (drop 2 bytes)) read in
-    (λ z. (parts r trace _ (v z)).0 ∙ answer, m ∙ ap (λ (a : Answer Sheet). cleared a memo) read, subst (λ (a : Answer Sheet). TablesAfter a heads nodes sets heads' nodes' sets') read t)
+    ((parts r trace _ v).0 ∙ answer, m ∙ ap (λ (a : Answer Sheet). cleared a memo) read, subst (λ (a : Answer Sheet). TablesAfter a heads nodes sets heads' nodes' sets') read t)

@@ -3,6 +3,7 @@
 use mathlib.Core.Bool.{true}
 use prog.Linked.{World, Tree, Holds, in_world}
 use prog.LinkedThreads.{HasT}
+use Rattle.progression.proofs.Linking as progression
 use Rattle.verifier.proofs.Linking as verifier
 use Rattle.release.proofs.TheLink as link
 use Rattle.release.proofs.feeding.Release.end.Symbol as end-symbol
@@ -16,11 +17,11 @@ table = link.table
 
 -- The tables that a program needs.
 abbrev pub Needs : World → Type 0
-Needs W = Holds W "release" table × verifier.Needs W
+Needs W = Holds W "release" table × progression.Needs W × verifier.Needs W
 
 module _ (W : World) (needs : Needs W) where
   below : link.Below W
-  below = (verifier.verify_in_has W needs.1, tt)
+  below = (progression.lesser_has W needs.1, (verifier.verify_in_has W needs.2, tt))
 
   pub end_has : HasT (in_world W) true end-symbol.code
   end_has = link.linked-release::feeding::Release::end W needs.0 below

@@ -1,20 +1,16 @@
 -- The state of a stream of bytes fits its memory: numbers of 64 bits, and bytes. Assumes nothing.
-use Rattle.std.proofs.Common.{◌≡◌, ℕ, zero, suc, ◌+◌, ◌-◌, ◌*◌, ◌^◌, ◌<◌, ◌≤◌, Bool, true, false, ltb, List, [], ◌∷◌, ◌++◌, map, length, get_or, take, refl, ap, ◌∙◌, arith}
+use Rattle.std.proofs.Common.{◌≡◌, ℕ, zero, suc, ◌+◌, ◌-◌, ◌*◌, ◌^◌, ◌<◌, ◌≤◌, Bool, true, false, ltb, List, [], ◌∷◌, ◌++◌, map, length, get_or, take, refl, arith}
 use Rattle.lists.specs.Lists.{up_from, AllUnder}
 use Rattle.std.specs.Prelude.{if◌then◌else◌}
 use Rattle.lists.proofs.ListLaws.{number_at}
-use Rattle.format.specs.Syntax.{Sheet}
-use Rattle.format.specs.Format.{Answer, reading}
+use Rattle.format.specs.Format.{reading}
 use Rattle.semantics.specs.Figures.{apart, most_lengths, answer_to, answers_to, greater}
 use Rattle.semantics.proofs.FigureLaws.{cut_none, sheets_most, cut_bytes, length_most}
-use Rattle.routine.specs.Memory.{Sized}
-use Rattle.routine.specs.Tables.{sheet_heads, node_cells, set_words, prepared}
-use Rattle.routine.proofs.FitLaws.{prepared_length}
 use Rattle.release.specs.declared.figures.Figures.{Figures}
 use Rattle.release.specs.declared.feeding.Release.{Release}
 use Rattle.release.specs.Counting.{no_figures, plus, counted_one, counted}
 use Rattle.release.specs.Framing.{first_of, most_begun, length_of, size_of, kept_of, begun_of, held_in, opened}
-use Rattle.release.specs.Feeding.{standing, onward, fed, state_of, prepared_all, TablesAfterAll}
+use Rattle.release.specs.Feeding.{standing, onward, fed, state_of}
 use Rattle.release.proofs.FramingLaws.{first_length}
 use Rattle.release.proofs.StreamLaws.{none_short}
 
@@ -124,17 +120,3 @@ pub state_fits : (stream : List ℕ) → AllUnder 256 stream → Fitting (state_
 unfolding state_of
 state_fits stream h =
     onward_fits no_figures 0 stream (omega arith, omega arith, omega arith, omega arith, omega arith, omega arith) (omega arith) h
-
--- Tables keep their lengths whatever is fed.
-all_length : (has : Sheet → List ℕ) (sheets : List (Answer Sheet)) (memory : List ℕ) → length (prepared_all has sheets memory) ≡ length memory
-unfolding prepared_all
-all_length has [] memory = refl
-all_length has (sheet ∷ rest) memory = all_length has rest (prepared has sheet memory) ∙ prepared_length has sheet memory
-
-module _ (sheets : List (Answer Sheet)) (heads nodes sets heads' nodes' sets' : List ℕ) where
-  pub all_sized : TablesAfterAll sheets heads nodes sets heads' nodes' sets' → Sized heads nodes sets → Sized heads' nodes' sets'
-  all_sized t s = (
-    ap length t.0 ∙ all_length sheet_heads sheets heads ∙ s.0,
-    ap length t.1 ∙ all_length node_cells sheets nodes ∙ s.1,
-    ap length t.2 ∙ all_length set_words sheets sets ∙ s.2,
-  )

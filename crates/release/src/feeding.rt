@@ -2,7 +2,6 @@
 ghost use Rattle.std.specs.Prelude.{◌≡◌, ℕ, List, [], ◌++◌, length, drop, nat_le};
 ghost use Rattle.format.specs.Format.{reading};
 ghost use Rattle.semantics.specs.Figures.{apart, most_lengths, answer_to, figures as figures_of_stream};
-ghost use Rattle.routine.specs.Memory.{Sized};
 ghost use Rattle.routine.specs.Tables.{TablesAfter};
 ghost use Rattle.verifier.specs.Answers.{answer_of, cleared};
 ghost use Rattle.release.specs.Counting.{meant_by};
@@ -14,7 +13,7 @@ use crate::figures::Figures;
 use crate::framing::Begun;
 use reader::Refusal;
 use routine::{HEAD_CELLS, NODE_CELLS, SET_WORDS, TRACE};
-use verifier::{MEMO_WORDS, Verdict, verify_in};
+use verifier::{MEMO_WORDS, Verdict, VerifyError, verify_in};
 
 // The most lengths that are read, and the budget of each sheet.
 const LENGTHS: u64 = 65535;
@@ -36,12 +35,12 @@ fn answer_in(
     nodes: &mut [u16; NODE_CELLS],
     sets: &mut [u64; SET_WORDS],
     memo: &mut [u64; MEMO_WORDS],
-) -> Verdict
-    ensures { (bytes : List ℕ) → begun ≡ gathered bytes → length bytes ≡ size_of bytes → (Sized heads.old nodes.old sets.old → answer_of result ≡ answer_to (reading (drop 2 bytes))) × (memo.new ≡ cleared (reading (drop 2 bytes)) memo.old) × TablesAfter (reading (drop 2 bytes)) heads.old nodes.old sets.old heads.new nodes.new sets.new }
+) -> Result<Verdict, VerifyError>
+    ensures { (bytes : List ℕ) → begun ≡ gathered bytes → length bytes ≡ size_of bytes → (answer_of result ≡ answer_to (reading (drop 2 bytes))) × (memo.new ≡ cleared (reading (drop 2 bytes)) memo.old) × TablesAfter (reading (drop 2 bytes)) heads.old nodes.old sets.old heads.new nodes.new sets.new }
 {
     let size = begun.size();
     if Begun::BYTES < size {
-        return Verdict::Refused(Refusal::Length);
+        return Err(VerifyError::Refused(Refusal::Length));
     }
     let bytes = begun.bytes;
     let mut trace = [0u8; TRACE];
@@ -71,9 +70,9 @@ impl Release {
         };
         let begun = Begun::nothing();
         Release {
-            figures: figures,
+            figures,
             lengths: 0,
-            begun: begun,
+            begun,
         }
     }
 
@@ -87,21 +86,22 @@ impl Release {
         sets: &mut [u64; SET_WORDS],
         memo: &mut [u64; MEMO_WORDS],
     ) -> Release
-        ensures { (Sized heads.old nodes.old sets.old → (result ≡ fed self piece.now) × ((stream : List ℕ) → self ≡ state_of stream → result ≡ state_of (stream ++ piece.now))) × (memo.new ≡ cleared_all (read_by self piece.now) memo.old) × TablesAfterAll (read_by self piece.now) heads.old nodes.old sets.old heads.new nodes.new sets.new }
+        ensures { (result ≡ fed self piece.now) × ((stream : List ℕ) → self ≡ state_of stream → result ≡ state_of (stream ++ piece.now)) × (memo.new ≡ cleared_all (read_by self piece.now) memo.old) × TablesAfterAll (read_by self piece.now) heads.old nodes.old sets.old heads.new nodes.new sets.new }
     {
         let mut figures = self.figures;
         let mut lengths = self.lengths;
         let mut begun = self.begun.settled();
-        let mut at = 0;
+        let mut rest = piece;
+        // (No range: `lengths` is asked for behind the loop too, and may be past LENGTHS from the first.)
         while lengths < LENGTHS {
-            let filled = begun.fill(piece, at);
+            let filled = begun.fill(rest);
             begun = filled.begun;
-            at = filled.at;
+            rest = filled.rest;
             if begun.held < begun.size() {
                 let stored = begun.stored();
                 return Release {
-                    figures: figures,
-                    lengths: lengths,
+                    figures,
+                    lengths,
                     begun: stored,
                 };
             }
@@ -112,8 +112,8 @@ impl Release {
         }
         let none = Begun::nothing();
         Release {
-            figures: figures,
-            lengths: lengths,
+            figures,
+            lengths,
             begun: none,
         }
     }

@@ -4,7 +4,7 @@ ghost use Rattle.semantics.specs.Figures.{figure_numbers};
 ghost use Rattle.verifier.specs.Answers.{answer_of};
 ghost use Rattle.release.specs.Counting.{meant_by, counted_one, with_cut};
 
-use verifier::Verdict;
+use verifier::{Verdict, VerifyError};
 
 // How many were valid, invalid, stopped and refused, the sum of their counts, and the greatest length among the invalid.
 #[derive(Clone, Copy)]
@@ -45,17 +45,17 @@ impl Figures {
     }
 
     // With one answer more. (Figures that no stream has may be at their limit, from which they start anew.)
-    pub(crate) fn with_answer(self, answer: Verdict) -> Figures
+    pub(crate) fn with_answer(self, answer: Result<Verdict, VerifyError>) -> Figures
         ensures { result ≡ counted_one self (answer_of answer) }
     {
         let mut after = self;
         match answer {
-            Verdict::Valid(c) => {
+            Ok(Verdict::Valid(c)) => {
                 after.valid = self.valid.wrapping_add(1);
                 after.sum = self.sum.wrapping_add(c as u64);
                 after
             }
-            Verdict::Invalid(c, l) => {
+            Ok(Verdict::Invalid(c, l)) => {
                 after.invalid = self.invalid.wrapping_add(1);
                 after.sum = self.sum.wrapping_add(c as u64);
                 if after.greatest < l as u64 {
@@ -63,13 +63,12 @@ impl Figures {
                 }
                 after
             }
-            Verdict::Stopped(b) => {
+            Ok(Verdict::Stopped(b)) => {
                 after.stopped = self.stopped.wrapping_add(1);
                 after.sum = self.sum.wrapping_add(b as u64);
                 after
             }
-            Verdict::ShortMemory => self.with_refused(),
-            Verdict::Refused(r) => self.with_refused(),
+            Err(error) => self.with_refused(),
         }
     }
 }

@@ -3,40 +3,25 @@ ghost use Rattle.std.specs.Prelude.{◌≡◌, ℕ, ◌+◌, ◌*◌, ◌<◌, �
 ghost use Rattle.release.specs.Framing.{size_of, begun_of, opened};
 ghost use Rattle.release.specs.Filling.{gathered, FilledTo, FilledUp};
 
+use progression::lesser;
 use reader::BYTES;
 
 // The bytes of a length.
 const LENGTH: usize = 2;
 
 // What is begun: so many bytes of a length and its sheet, and the first of them; zeros behind. The bytes of a sheet that is
-// too long are counted and not kept.
+// too long are counted and not kept. (A length beside an array, since the memory is fixed and C lends both.)
 #[derive(Clone, Copy)]
 pub struct Begun {
     pub held: usize,
     pub bytes: [u8; Begun::BYTES],
 }
 
-// What is begun with more of a piece, and how far the piece is used.
+// What is begun with more of a piece, and what is left of the piece.
 #[derive(Clone, Copy)]
-pub(crate) struct Filled {
+pub(crate) struct Filled<'a> {
     pub(crate) begun: Begun,
-    pub(crate) at: usize,
-}
-
-// The bytes that a length and its sheet have together. (Bytes that are read from an array have their bounds here, as parameters.)
-fn size_by(high: u8, low: u8) -> usize
-    ensures { (result ≡ 2 + (256 * high + low)) × (2 ≤ result) × (result < 65538) }
-{
-    LENGTH + (256 * high as usize + low as usize)
-}
-
-fn least(a: usize, b: usize) -> usize
-    ensures { (result ≤ a) × (result ≤ b) × ((result ≡ a) ⊎ (result ≡ b)) }
-{
-    if a < b {
-        return a;
-    }
-    b
+    pub(crate) rest: &'a [u8],
 }
 
 impl Begun {
@@ -58,7 +43,7 @@ impl Begun {
         ensures { (result ≡ size_of self.bytes) × (2 ≤ result) × (result < 65538) }
     {
         let bytes = self.bytes;
-        size_by(bytes[0], bytes[1])
+        LENGTH + (256 * bytes[0] as usize + bytes[1] as usize)
     }
 
     // The same as bytes leave it: no more than the length says, and zeros behind.
@@ -66,17 +51,15 @@ impl Begun {
         ensures { result ≡ gathered (opened self) }
     {
         let size = self.size();
-        let held = least(self.held, size);
-        let kept = least(held, Begun::BYTES);
+        let held = lesser(self.held, size);
+        let kept = lesser(held, Begun::BYTES);
         let from = self.bytes;
         let mut bytes = [0u8; Begun::BYTES];
+        // (Byte by byte, since the code of `copy_from_slice` is shut.)
         for i in 0..kept {
             bytes[i] = from[i];
         }
-        Begun {
-            held: held,
-            bytes: bytes,
-        }
+        Begun { held, bytes }
     }
 
     // The same as it is kept: of a sheet that is too long its length alone.
@@ -92,46 +75,46 @@ impl Begun {
         bytes[1] = from[1];
         Begun {
             held: self.held,
-            bytes: bytes,
+            bytes,
         }
     }
 
     // With more of a piece, until so many bytes are held or the piece ends.
-    fn fill_to(self, piece: &[u8], at: usize, goal: usize) -> Filled
-        requires { (at ≤ length piece.now) × (goal < 65538) }
-        ensures { (result.at ≤ length piece.now) × ((begun : List ℕ) → self ≡ gathered begun → FilledTo begun piece.now at goal result) }
+    fn fill_to<'a>(self, piece: &'a [u8], goal: usize) -> Filled<'a>
+        requires { goal < 65538 }
+        ensures { (begun : List ℕ) → self ≡ gathered begun → FilledTo begun piece.now goal result.begun result.rest.now }
     {
         let held = self.held;
         if goal <= held {
             return Filled {
                 begun: self,
-                at: at,
+                rest: piece,
             };
         }
-        let more = least(goal - held, piece.len() - at);
-        let kept = least(held + more, Begun::BYTES);
+        let more = lesser(goal - held, piece.len());
+        let kept = lesser(held + more, Begun::BYTES);
         let mut bytes = self.bytes;
+        // (Byte by byte, as in `settled`.)
         for i in held..kept {
-            bytes[i] = piece[at + (i - held)];
+            bytes[i] = piece[i - held];
         }
         let begun = Begun {
             held: held + more,
-            bytes: bytes,
+            bytes,
         };
         Filled {
-            begun: begun,
-            at: at + more,
+            begun,
+            rest: &piece[more..],
         }
     }
 
     // With more of a piece, until the sheet is whole or the piece ends.
-    pub(crate) fn fill(self, piece: &[u8], at: usize) -> Filled
-        requires { at ≤ length piece.now }
-        ensures { (begun : List ℕ) → self ≡ gathered begun → length begun ≤ size_of begun → FilledUp begun piece.now at result }
+    pub(crate) fn fill<'a>(self, piece: &'a [u8]) -> Filled<'a>
+        ensures { (begun : List ℕ) → self ≡ gathered begun → length begun ≤ size_of begun → FilledUp begun piece.now result.begun result.rest.now }
     {
-        let first = self.fill_to(piece, at, LENGTH);
+        let first = self.fill_to(piece, LENGTH);
         let begun = first.begun;
         let size = begun.size();
-        begun.fill_to(piece, first.at, size)
+        begun.fill_to(first.rest, size)
     }
 }

@@ -13,72 +13,61 @@ use Rattle.states.specs.Sets.{words, member, set_of}
 use Rattle.states.proofs.SetLaws.{member_set_of, set_cong}
 use Rattle.format.specs.Syntax.{Objective, bottom, Action, change, probe, reply_count}
 use Rattle.format.specs.Truth.{truth, holds, reply_holds}
-use Rattle.format.specs.Format.{Read, got, most_bytes, Kind, changes, probes, kind, reply_total, of_sheet}
-use Rattle.format.proofs.ReaderLaws.{sheet_short}
+use Rattle.format.specs.Format.{Read, got, fault, Kind, changes, probes, kind, reply_total}
 use Rattle.format.specs.Standing.{ObjectiveAt, RepliesAt, ActionAt, ActionsAt}
-use Rattle.reader.specs.Answers.{kind_read, total_read, states_in}
-use Rattle.reader.specs.declared.refusal.Refusal.{Refusal}
+use Rattle.reader.specs.Answers.{states_in}
 use Rattle.reader.specs.declared.formula.View.{View}
-use Rattle.reader.specs.declared.nodes.ActionKind.{ActionKind}
-use Rattle.reader.specs.declared.nodes.ReplyTotal.{ReplyTotal}
 use Rattle.routine.specs.declared.actions.Laid.{Laid}
 use Rattle.routine.specs.Memory.{set_most}
 use Rattle.routine.specs.Tables.{rows, action_sets, head_cells}
 use Rattle.routine.specs.Filling.{Replies, ActionRoom, ActionWritten}
 use Rattle.routine.proofs.WriteLaws.{written_on, words_four, spread_step, spread_append, spread_length}
 
--- What `action_kind` and `reply_total` answer where an action stands.
-module _ (bytes : List ℕ) (n : ℕ) (p : ℕ) (r : ActionKind) (short : length bytes ≤ most_bytes) (e : kind_read r ≡ of_sheet kind bytes p) where
-  told : {h : Read Kind} → kind bytes p ≡ h → kind_read r ≡ h
-  told k = e ∙ sym (sheet_short kind bytes p short k)
-
+-- The kind and the reply count that are read where an action stands.
+module _ (bytes : List ℕ) (n : ℕ) (p : ℕ) where
   -- A change, behind whose kind its theory stands.
-  pub change_found : {end : ℕ} → r ≡ ActionKind.Change end → (x : Action) (q : ℕ) → ActionAt bytes n x p q
+  pub change_found : {end : ℕ} → got changes end ≡ kind bytes p → (x : Action) (q : ℕ) → ActionAt bytes n x p q
       → (f : Objective) × (x ≡ change f) × ObjectiveAt bytes n true f end q
-  unfolding kind_read ActionAt
+  unfolding ActionAt
   change_found {end} k (change f) q h =
-      let g : got changes end ≡ got changes h.0 = sym (ap kind_read k) ∙ told h.1 in
+      let g : got changes end ≡ got changes h.0 = k ∙ h.1 in
       let b : end ≡ h.0 = cc in
       (f, refl, rw b h.2)
   change_found {end} k (probe fs) q h =
-      let g : got changes end ≡ got probes h.0 = sym (ap kind_read k) ∙ told h.1 in
+      let g : got changes end ≡ got probes h.0 = k ∙ h.1 in
       let z : ◌≡◌ {A = ℕ} 0 1 = cc in absurd (omega arith)
 
   -- A probe, behind whose kind its reply count stands, and its replies behind that.
-  module _ {behind : ℕ} (k : r ≡ ActionKind.Probe behind) (x : Action) (q : ℕ) (h : ActionAt bytes n x p q) where
+  module _ {behind : ℕ} (k : got probes behind ≡ kind bytes p) (x : Action) (q : ℕ) (h : ActionAt bytes n x p q) where
     counted : (fs : List Objective) × (x ≡ probe fs) × (i : ℕ) × (reply_total bytes behind ≡ got (length fs) i) × RepliesAt bytes n fs i q
     counted = go x h
       where
         go : (x : Action) → ActionAt bytes n x p q → (fs : List Objective) × (x ≡ probe fs) × (i : ℕ) × (reply_total bytes behind ≡ got (length fs) i) × RepliesAt bytes n fs i q
-        go (change f) h = unfold kind_read ActionAt in (
-            let g : got probes behind ≡ got changes h.0 = sym (ap kind_read k) ∙ told h.1 in
+        go (change f) h = unfold ActionAt in (
+            let g : got probes behind ≡ got changes h.0 = k ∙ h.1 in
             let z : ◌≡◌ {A = ℕ} 0 1 = cc in absurd (omega arith))
-        go (probe fs) h = unfold kind_read ActionAt in (
-            let g : got probes behind ≡ got probes h.0 = sym (ap kind_read k) ∙ told h.1 in
+        go (probe fs) h = unfold ActionAt in (
+            let g : got probes behind ≡ got probes h.0 = k ∙ h.1 in
             let b : behind ≡ h.0 = cc in
             (fs, refl, h.2, rw b h.3, h.4))
 
-    module _ (c : ReplyTotal) (f : total_read c ≡ of_sheet reply_total bytes behind) where
-      total : total_read c ≡ got (length counted.0) counted.2
-      total = f ∙ sym (sheet_short reply_total bytes behind short counted.3)
+    pub probe_found : {m end : ℕ} → got m end ≡ reply_total bytes behind → (fs : List Objective) × (x ≡ probe fs) × (length fs ≡ m) × RepliesAt bytes n fs end q
+    probe_found {m} {end} l =
+        let g : got m end ≡ got (length counted.0) counted.2 = l ∙ counted.3 in
+        let b : end ≡ counted.2 = cc in
+        let many : length counted.0 ≡ m = cc in
+        (counted.0, counted.1, many, rw b counted.4)
 
-      pub probe_found : {m end : ℕ} → c ≡ ReplyTotal.Count m end → (fs : List Objective) × (x ≡ probe fs) × (length fs ≡ m) × RepliesAt bytes n fs end q
-      unfolding total_read
-      probe_found {m} {end} l =
-          let g : got m end ≡ got (length counted.0) counted.2 = sym (ap total_read l) ∙ total in
-          let b : end ≡ counted.2 = cc in
-          let many : length counted.0 ≡ m = cc in
-          (counted.0, counted.1, many, rw b counted.4)
+    -- No refusal.
+    pub never_uncounted : {y : ℕ} {A : Type 0} → fault y ≡ reply_total bytes behind → A
+    never_uncounted {y} l =
+        let g : ◌≡◌ {A = Read ℕ} (fault y) (got (length counted.0) counted.2) = l ∙ counted.3 in
+        let z : ◌≡◌ {A = ℕ} 0 1 = cc in absurd (omega arith)
 
-      -- No refusal.
-      pub never_uncounted : {y : Refusal} {A : Type 0} → c ≡ ReplyTotal.Refused y → A
-      unfolding total_read
-      never_uncounted l = let g = sym (ap total_read l) ∙ total in let z : ◌≡◌ {A = ℕ} 0 1 = cc in absurd (omega arith)
-
-  pub never_faulty : {x : Refusal} {A : Type 0} → r ≡ ActionKind.Refused x → (a : Action) (q : ℕ) → ActionAt bytes n a p q → A
-  unfolding kind_read ActionAt
-  never_faulty k (change f) q h = let g = sym (ap kind_read k) ∙ told h.1 in let z : ◌≡◌ {A = ℕ} 0 1 = cc in absurd (omega arith)
-  never_faulty k (probe fs) q h = let g = sym (ap kind_read k) ∙ told h.1 in let z : ◌≡◌ {A = ℕ} 0 1 = cc in absurd (omega arith)
+  pub never_faulty : {x : ℕ} {A : Type 0} → fault x ≡ kind bytes p → (a : Action) (q : ℕ) → ActionAt bytes n a p q → A
+  unfolding ActionAt
+  never_faulty {x} k (change f) q h = let g : ◌≡◌ {A = Read Kind} (fault x) (got changes h.0) = k ∙ h.1 in let z : ◌≡◌ {A = ℕ} 0 1 = cc in absurd (omega arith)
+  never_faulty {x} k (probe fs) q h = let g : ◌≡◌ {A = Read Kind} (fault x) (got probes h.0) = k ∙ h.1 in let z : ◌≡◌ {A = ℕ} 0 1 = cc in absurd (omega arith)
 
 -- The row of a state: the states of a space that may follow it.
 abbrev pub row_of : States → Objective → ℕ → States
@@ -86,9 +75,6 @@ row_of space f s = set_of (λ t. member space s && member space t && truth f s t
 
 module _ (space : States) (f : Objective) (s : ℕ) where
   -- A state outside has none.
-  pub row_outside : member space s ≡ false → set_of (λ t. false) ≡ row_of space f s
-  row_outside e = ap (λ (b : Bool). set_of (λ t. b && member space t && truth f s t)) (sym e)
-
   -- One inside has those that the theory allows.
   pub row_inside : {set : States} → member space s ≡ true → set ≡ states_in (View.Next s) f → set_of (λ t. member space t && member set t) ≡ row_of space f s
   unfolding states_in
@@ -144,13 +130,6 @@ pub record RepliesLeft (bytes : List ℕ) (n m k : ℕ) (before after : List ℕ
   pub whole : write after (4 * (k + i)) (flat_map words (map table_of left)) ≡ write before (4 * k) (flat_map words (map table_of fs))
 
 module _ (bytes : List ℕ) (n m k : ℕ) (before : List ℕ) (q : ℕ) (fs : List Objective) where
-  -- At first all are.
-  pub replies_first : (p : ℕ) → RepliesAt bytes n fs p q → length fs ≡ m → RepliesLeft bytes n m k before before p q 0 fs
-  replies_first p h l =
-      let e : k + 0 ≡ k = omega arith in
-      let d : length fs ≡ m - 0 = omega arith in
-      record { left = fs; number = d; stand = h; whole = ap (λ (j : ℕ). write before (4 * j) (flat_map words (map table_of fs))) e }
-
   -- The next one stands where they do.
   pub replies_here : {after : List ℕ} {p i : ℕ} → i < m → RepliesLeft bytes n m k before after p q i fs → (f : Objective) × (r : ℕ) × ObjectiveAt bytes n false f p r
       × ((set : States) (end : ℕ) (then : List ℕ) → (set ≡ states_in View.States f) × (end ≡ r) → then ≡ write after (4 * (k + i)) (words set) → RepliesLeft bytes n m k before then end q (i + 1) fs)
@@ -217,16 +196,16 @@ module _ (space : States) where
       ap length (change_sets f) ∙ length-append (rows (member space) (change f)) (set_of (λ s. true) ∷ []) ∙ ap (λ (j : ℕ). j + 1) (rows_count space f)
 
   -- The parts of an action that has room stand behind its first node, and have room.
-  module _ (bytes : List ℕ) (n p k : ℕ) (r : ActionKind) (short : length bytes ≤ most_bytes) (e : kind_read r ≡ of_sheet kind bytes p) (here : ActionRoom bytes n space p k) where
-    pub change_room : {end : ℕ} → r ≡ ActionKind.Change end → k + 257 ≤ set_most
+  module _ (bytes : List ℕ) (n p k : ℕ) (here : ActionRoom bytes n space p k) where
+    pub change_room : {end : ℕ} → got changes end ≡ kind bytes p → k + 257 ≤ set_most
     change_room g =
-        let x = change_found bytes n p r short e g here.action here.next here.stands in
+        let x = change_found bytes n p g here.action here.next here.stands in
         let l : length (action_sets (member space) here.action) ≡ 257 = ap (λ (y : Action). length (action_sets (member space) y)) x.1 ∙ change_count x.0 in
         omega (arith, l, here.room)
 
-    pub probe_room : {behind m end : ℕ} → r ≡ ActionKind.Probe behind → (c : ReplyTotal) → total_read c ≡ of_sheet reply_total bytes behind → c ≡ ReplyTotal.Count m end → Replies bytes n end m k
-    probe_room g c f h =
-        let x = probe_found bytes n p r short e g here.action here.next here.stands c f h in
+    pub probe_room : {behind m end : ℕ} → got probes behind ≡ kind bytes p → got m end ≡ reply_total bytes behind → Replies bytes n end m k
+    probe_room g h =
+        let x = probe_found bytes n p g here.action here.next here.stands h in
         let l : length (action_sets (member space) here.action) ≡ length x.0 = ap (λ (y : Action). length (action_sets (member space) y)) x.1 ∙ probe_count x.0 in
         record { formulas = x.0; next = here.next; stand = x.3; all = x.2; room = omega (arith, l, x.2, here.room) }
 
@@ -271,10 +250,6 @@ pub record ActionsLeft (bytes : List ℕ) (n : ℕ) (space : States) (count : �
   pub sets_whole : write sets' (4 * k) (flat_map words (flat_map (action_sets (member space)) left)) ≡ write sets 0 (flat_map words (flat_map (action_sets (member space)) actions))
 
 module _ (bytes : List ℕ) (n : ℕ) (space : States) (count : ℕ) (heads sets : List ℕ) (q : ℕ) (actions : List Action) where
-  -- At first all are.
-  pub actions_first : {p : ℕ} → ActionsAt bytes n actions p q → length actions ≡ count → ActionsLeft bytes n space count heads heads sets sets p q 0 0 actions
-  actions_first h l = record { left = actions; number = omega arith; stand = h; sets_count = omega arith; heads_whole = refl; sets_whole = refl }
-
   module _ (heads' sets' : List ℕ) (p k a : ℕ) where
     -- The next action, which stands where they do and has room, and what is left behind it.
     pub record Next : Type 0 where

@@ -4,10 +4,9 @@ use mathlib.Core.Path.{◌≡◌, sym, ap, subst, ◌∙◌}
 use mathlib.Core.List.{List, ◌∷◌, ◌++◌, flat_map}
 use mathlib.Core.Bool.{Bool, true, false}
 use native.Mathlib.Omega.{arith}
-use lib.ListN.{length}
 use Rattle.format.specs.Syntax.{Objective, Epistemic, known, not_known, all_of, any_of}
-use Rattle.format.specs.Format.{Read, got, fault, objective, EpistemicNode, known_node, not_known_node, all_of_node, any_of_node, epistemic_node, epistemic_behind, epistemic, of_sheet, most_bytes, deepest}
-use Rattle.format.proofs.ReaderLaws.{sheet_short, Pair, epistemic_split, known_split, not_known_split, all_of_split, any_of_split}
+use Rattle.format.specs.Format.{Read, got, fault, objective, EpistemicNode, known_node, not_known_node, all_of_node, any_of_node, epistemic_node, epistemic_behind, epistemic, deepest}
+use Rattle.format.proofs.ReaderLaws.{Pair, epistemic_split, known_split, not_known_split, all_of_split, any_of_split}
 use Rattle.format.specs.Standing.{ObjectiveAt}
 use Rattle.format.proofs.FormulaLaws.{objective_levels}
 use Rattle.routine.specs.declared.memory.Node.{Node}
@@ -56,11 +55,11 @@ module _ (bytes : List ℕ) (n : ℕ) where
       record { parts = w; many = unfold formula_size in (ap formula_size (sym w.is)); sets_many = unfold atoms in (ap atoms (sym w.is)); some = some }
 
   -- The parts of a formula that is read, by what `epistemic_node` answers.
-  pub formula_parts : (left at : ℕ) {h : Read EpistemicNode} → length bytes ≤ most_bytes → left ≤ deepest → h ≡ of_sheet epistemic_node bytes at
+  pub formula_parts : (left at : ℕ) {h : Read EpistemicNode} → left ≤ deepest → h ≡ epistemic_node bytes at
       → (f : Epistemic) (q : ℕ) → epistemic n left bytes at ≡ got f q → Parts bytes n left h f q
-  formula_parts left at short l e f q r =
+  formula_parts left at l e f q r =
       let w = epistemic_split n bytes at left f q r in
-      subst (λ x. Parts bytes n left x f q) (sheet_short epistemic_node bytes at short w.3 ∙ sym e) (parts_behind left l w.0 w.2 f q w.1 w.4)
+      subst (λ x. Parts bytes n left x f q) (sym w.3 ∙ sym e) (parts_behind left l w.0 w.2 f q w.1 w.4)
 
 -- The atom that says of an objective formula that it is known, or that it isn't.
 abbrev atom_of : (positive : Bool) → Objective → Epistemic
@@ -86,9 +85,6 @@ module _ (bytes : List ℕ) (n left : ℕ) (from : Filled) where
 
     abbrev second_behind_law : Filled
     second_behind_law = behind_formula first_behind second q
-
-    second_read_at : {x : Filled} → x ≡ first_behind → epistemic n (left - 1) bytes x.at ≡ got second q
-    second_read_at is = ap (λ (v : Filled). epistemic n (left - 1) bytes v.at) is ∙ second_read
 
     -- What the second part writes, from where the first ends.
     pub second_written : (nodes₁ nodes₂ sets₁ sets₂ : List ℕ) {x y : Filled} → x ≡ first_behind → FormulaFills bytes n (left - 1) x nodes₁ nodes₂ sets₁ sets₂ y
@@ -155,32 +151,6 @@ module _ (bytes : List ℕ) (n left : ℕ) (from : Filled) where
     pub join_room : from.node + 1 ≤ node_most
     join_room = omega (arith, room.nodes_room)
 
-    pub first_room : FormulaRoom bytes n (left - 1) (parts_from from p)
-    first_room =
-        record {
-          formula = room.first;
-          next = room.middle;
-          read = room.first_read;
-          levels = omega (arith, room.levels);
-          nodes_room = omega (arith, room.nodes_room);
-          sets_room = omega (arith, room.sets_room);
-        }
-
-    module _ {x : Filled} (is : x ≡ behind_formula (parts_from from p) room.first room.middle) where
-      pub second_room : FormulaRoom bytes n (left - 1) x
-      second_room =
-          record {
-            formula = room.second;
-            next = room.next;
-            read = second_read_at room.first room.second p room.middle room.next room.first_read room.second_read is;
-            levels = omega (arith, room.levels);
-            nodes_room = omega (arith, room.nodes_room, ap (λ (v : Filled). v.node) is);
-            sets_room = omega (arith, room.sets_room, ap (λ (v : Filled). v.set) is);
-          }
-
     module _ {y : Filled} (is : y ≡ behind_formula (behind_formula (parts_from from p) room.first room.middle) room.second room.next) where
-      pub size_inside : from.node + 1 ≤ y.node
-      size_inside = omega (arith, ap (λ (v : Filled). v.node) is)
-
       pub size_small : y.node - (from.node + 1) < 65536
       size_small = omega (arith, room.nodes_room, ap (λ (v : Filled). v.node) is)

@@ -12,15 +12,14 @@ use Rattle.states.specs.Sets.{words, member, set_of}
 use Rattle.states.proofs.SetLaws.{member_set_of, set_cong}
 use Rattle.format.specs.Syntax.{Action, change, probe, reply_count, Sheet}
 use Rattle.format.specs.Truth.{in_space, is_state, truth, holds}
-use Rattle.format.specs.Format.{Answer, gives, refused, on_accepted, Read, got, fault, deepest, epistemic, reading, mapped, header, of_sheet, is_edition}
-use Rattle.format.proofs.ReaderLaws.{sheet_short}
+use Rattle.format.specs.Format.{Answer, gives, refused, on_accepted, Read, got, fault, deepest, epistemic, reading, mapped, header, is_edition}
 use Rattle.format.proofs.StandingLaws.{accepted_standing}
 use Rattle.format.specs.Standing.{Standing, ObjectiveAt, ActionsAt, ProgramAt}
-use Rattle.reader.specs.Answers.{number_of, without_value, in_theory, states_in, space_set, HeaderKept, spaced, kept_of, header_is_read}
+use Rattle.reader.proofs.PackedLaws.{packed_is}
+use Rattle.reader.proofs.BodyLaws.{long_refused}
+use Rattle.reader.specs.Answers.{packed, without_value, in_theory, states_in, space_set, HeaderKept, spaced, kept_of}
 use Rattle.reader.proofs.AnswerLaws.{was_accepted, was_refused}
-use Rattle.reader.specs.declared.refusal.Refusal.{Refusal}
 use Rattle.reader.specs.declared.layout.Header.{Header as HeaderValue}
-use Rattle.reader.specs.declared.layout.ParsedHeader.{ParsedHeader}
 use Rattle.reader.specs.declared.formula.View.{View}
 use Rattle.format.proofs.SheetLaws.{accepted_shape}
 use Rattle.routine.specs.declared.actions.Laid.{Laid}
@@ -74,16 +73,25 @@ module _ (bytes : List ℕ) (sheet : Sheet) (read : reading bytes ≡ gives shee
   abbrev sheet_kept : HeaderKept
   sheet_kept = record { edition = stands.edition; facts = sheet.facts; space = space_set sheet.facts sheet.constraint; actions = length sheet.actions }
 
-  header_kept : mapped spaced (of_sheet (header is_edition) bytes 0) ≡ got sheet_kept stands.actions_at
+  header_kept : mapped spaced (header is_edition bytes 0) ≡ got sheet_kept stands.actions_at
   unfolding mapped spaced
-  header_kept = ap (mapped spaced) (sym (sheet_short (header is_edition) bytes 0 stands.short stands.header_read))
+  header_kept = ap (mapped spaced) stands.header_read
 
   -- What the code found of it.
-  pub header_refused : {A : Type 0} (r : ParsedHeader) (x : Refusal) → header_is_read r ≡ mapped spaced (of_sheet (header is_edition) bytes 0) → r ≡ ParsedHeader.Refused x → A
-  unfolding header_is_read
-  header_refused r x e told =
-      let f : ◌≡◌ {A = Read HeaderKept} (fault (number_of x)) (got sheet_kept stands.actions_at) = sym (ap header_is_read told) ∙ e ∙ header_kept in
+  pub header_refused : {A : Type 0} {k : ℕ} → fault k ≡ mapped spaced (header is_edition bytes 0) → A
+  header_refused {k = k} e =
+      let f : ◌≡◌ {A = Read HeaderKept} (fault k) (got sheet_kept stands.actions_at) = e ∙ header_kept in
       let z : ◌≡◌ {A = ℕ} 0 1 = cc in absurd (omega arith)
+
+  -- The bytes are packed, as they are.
+  pub packed_never : {A : Type 0} {k : ℕ} → refused k ≡ packed bytes → A
+  unfolding without_value
+  packed_never {k = k} e =
+      let f : ◌≡◌ {A = Answer (Unit {0})} (refused k) (gives tt) = long_refused bytes e ∙ ap without_value read in
+      let z : ◌≡◌ {A = ℕ} 0 1 = cc in absurd (omega arith)
+
+  pub packed_reading : {kept : List ℕ} → gives kept ≡ packed bytes → reading kept ≡ gives sheet
+  packed_reading e = ap reading (packed_is bytes e) ∙ read
 
   pub record HeaderIs (h : HeaderValue) : Type 0 where
     pub facts_are : h.facts ≡ sheet.facts
@@ -91,10 +99,10 @@ module _ (bytes : List ℕ) (sheet : Sheet) (read : reading bytes ≡ gives shee
     pub space_is : h.space ≡ space_set sheet.facts sheet.constraint
     pub at_is : h.at ≡ stands.actions_at
 
-  pub header_found : (r : ParsedHeader) (h : HeaderValue) → header_is_read r ≡ mapped spaced (of_sheet (header is_edition) bytes 0) → r ≡ ParsedHeader.Read h → HeaderIs h
-  unfolding header_is_read kept_of
-  header_found r h e told =
-      let f : ◌≡◌ {A = Read HeaderKept} (got (kept_of h) h.at) (got sheet_kept stands.actions_at) = sym (ap header_is_read told) ∙ e ∙ header_kept in
+  pub header_found : (h : HeaderValue) → got (kept_of h) h.at ≡ mapped spaced (header is_edition bytes 0) → HeaderIs h
+  unfolding kept_of
+  header_found h e =
+      let f : ◌≡◌ {A = Read HeaderKept} (got (kept_of h) h.at) (got sheet_kept stands.actions_at) = e ∙ header_kept in
       let same : ◌≡◌ {A = HeaderKept} (kept_of h) sheet_kept = cc in
       let at : h.at ≡ stands.actions_at = cc in
       record {

@@ -5,8 +5,7 @@ use mathlib.Core.List.{List, [], ◌∷◌, ◌++◌, flat_map, append_assoc}
 use native.Mathlib.Omega.{arith}
 use lib.ListN.{length, length-append}
 use Rattle.format.specs.Syntax.{Epistemic, Program, end, act, branch, action_nodes}
-use Rattle.format.specs.Format.{Read, got, fault, ProgramNode, end_node, act_node, branch_node, program_node, of_sheet, most_bytes, deepest, epistemic}
-use Rattle.format.proofs.ReaderLaws.{sheet_short}
+use Rattle.format.specs.Format.{Read, got, fault, ProgramNode, end_node, act_node, branch_node, program_node, deepest, epistemic}
 use Rattle.format.proofs.StandingLaws.{epistemic_inside, program_node_inside, program_inside}
 use Rattle.format.specs.Standing.{BranchAt, EpistemicAt, EpistemicRead, ProgramAt}
 use Rattle.format.proofs.FormatLaws.{node_numbered}
@@ -72,8 +71,8 @@ module _ (bytes : List ℕ) (n at : ℕ) where
       rw s.1 (record { condition = f; yes = y; no = z; rest = rest; is = refl; many = refl; acts_many = refl; sets_many = refl; parts = s.2; before = let i = (program_node_inside bytes at).found branch_node s.0 s.1 in omega (arith, i.0) })
 
   -- The parts of a program that stands, by what `program_node` answers.
-  pub program_parts : {h : Read ProgramNode} → length bytes ≤ most_bytes → h ≡ of_sheet (program_node 0 0) bytes at → (x : Program) (q : ℕ) → ProgramAt bytes n x at q → Parts h x q
-  program_parts short e x q s = subst (λ r. Parts r x q) (sheet_short (program_node 0 0) bytes at short refl ∙ sym e) (parts_found x q s)
+  pub program_parts : {h : Read ProgramNode} → h ≡ program_node 0 0 bytes at → (x : Program) (q : ℕ) → ProgramAt bytes n x at q → Parts h x q
+  program_parts e x q s = subst (λ r. Parts r x q) (sym e) (parts_found x q s)
 
 -- The end has none.
 pub laid_end : (from : Filled) {x : Program} (p q : ℕ) (nodes sets : List ℕ) → (x ≡ end) × (p ≡ q)
@@ -379,16 +378,6 @@ module _ (bytes : List ℕ) (n at k : ℕ) where
 
   -- Room for them.
   module _ (room : RoutineRoom bytes n at k) where
-    pub goal_room : FormulaRoom bytes n deepest goal_from
-    goal_room = record {
-      formula = room.goal;
-      next = room.middle;
-      read = room.read;
-      levels = omega arith;
-      nodes_room = omega (arith, room.nodes_room);
-      sets_room = omega (arith, room.sets_room);
-    }
-
     module _ {g : Filled} (reach : (f : Epistemic) (q : ℕ) → epistemic n deepest bytes at ≡ got f q → g ≡ behind_formula goal_from f q) where
       abbrev is : g ≡ behind_formula goal_from room.goal room.middle
       is = reach room.goal room.middle room.read
@@ -396,17 +385,6 @@ module _ (bytes : List ℕ) (n at k : ℕ) where
       pub goal_small : (1 ≤ g.node) × Small (Node.Jump (g.node - goal_node))
       unfolding Small
       goal_small = let e = ap (λ (v : Filled). v.node) is in (omega (arith, e), omega (arith, e, room.nodes_room))
-
-      pub program_room : ProgramRoom bytes n g
-      program_room = subst (ProgramRoom bytes n) (sym is) (
-          record {
-            program = room.program;
-            next = room.next;
-            stands = room.stands;
-            nodes_room = omega (arith, room.nodes_room);
-            sets_room = omega (arith, room.sets_room);
-            acts_room = omega (arith, room.acts_room);
-          })
 
       pub end_room : {p : Filled} → ((x : Program) (q : ℕ) → ProgramAt bytes n x g.at q → p ≡ behind_program g x q) → (p.node < node_most) × Small (Node.End p.acts)
       unfolding Small

@@ -8,21 +8,17 @@ use native.Mathlib.Nat.{mul-zero, mul-suc}
 use lib.ListN.{length, get_or, take, length-append, get_or-append}
 use borrow.Author.Tests.{lt-ltb}
 use Rattle.lists.specs.Lists.{write}
-use Rattle.std.specs.Prelude.{if◌then◌else◌}
 use Rattle.lists.proofs.ListLaws.{append_past, made_get}
 use Rattle.states.specs.declared.States.{States}
 use Rattle.states.specs.Sets.{words, set_of}
 use Rattle.format.specs.Syntax.{Action, probe, reply_count, Sheet, action_of}
 use Rattle.format.specs.Truth.{is_state, reply_holds}
 use Rattle.format.specs.Format.{Answer, gives, refused, on_accepted, reading}
-use Rattle.reader.specs.Answers.{number_of}
-use Rattle.reader.specs.declared.refusal.Refusal.{Refusal}
 use Rattle.format.proofs.SheetLaws.{accepted_shape}
 use Rattle.routine.specs.declared.memory.Node.{Node}
 use Rattle.routine.specs.declared.memory.Head.{Head}
-use Rattle.routine.specs.declared.sheet.Prepared.{Prepared}
 use Rattle.routine.specs.Memory.{cells, head_most, node_most, set_most, Sized, set_at, node_of, node_at, head_at}
-use Rattle.routine.specs.Tables.{rows, reply_tables, action_sets, atom_sets, program_sets, head_cells, sheet_action_sets, sheet_sets, sheet_nodes, sheet_heads, set_words, node_cells, sheet_start, prepared_of, start_of, prepared, TablesAfter}
+use Rattle.routine.specs.Tables.{rows, reply_tables, action_sets, atom_sets, program_sets, head_cells, sheet_action_sets, sheet_sets, sheet_nodes, sheet_heads, set_words, node_cells, sheet_start, start_of, prepared, TablesAfter}
 use Rattle.routine.proofs.WriteLaws.{write_back, spread_length, words_four, cells_three}
 use Rattle.routine.proofs.RoomLaws.{action_length, heads_length, sheet_sets_length, sheet_nodes_length, accepted_room}
 
@@ -188,13 +184,13 @@ pub tables_tabled : (bytes : List ℕ) (sheet : Sheet) → reading bytes ≡ giv
 tables_tabled bytes sheet e heads nodes sets z heads' nodes' sets' t = rw (t.0, t.1, t.2) (prepared_tabled bytes sheet e heads nodes sets z)
 
 -- The sheet behind an answer of `prepare`: a start set is that of the accepted sheet, a refusal that of the sheet.
-pub ready_sheet : (a : Answer Sheet) (start : States) → prepared_of (Prepared.Ready start) ≡ start_of a → (sheet : Sheet) × (a ≡ gives sheet) × (start ≡ sheet_start sheet)
-unfolding prepared_of start_of on_accepted
+pub ready_sheet : (a : Answer Sheet) (start : States) → gives start ≡ start_of a → (sheet : Sheet) × (a ≡ gives sheet) × (start ≡ sheet_start sheet)
+unfolding start_of on_accepted
 ready_sheet (gives sheet) start e = (sheet, refl, cc)
 ready_sheet (refused r) start e = let z : ◌≡◌ {A = ℕ} 0 1 = cc in absurd (omega arith)
 
-pub refused_sheet : (a : Answer Sheet) (r : Refusal) → prepared_of (Prepared.Refused r) ≡ start_of a → a ≡ refused (number_of r)
-unfolding prepared_of start_of on_accepted
+pub refused_sheet : (a : Answer Sheet) (r : ℕ) → refused r ≡ start_of a → a ≡ refused r
+unfolding start_of on_accepted
 refused_sheet (gives sheet) r e = let z : ◌≡◌ {A = ℕ} 0 1 = cc in absurd (omega arith)
 refused_sheet (refused k) r e = cc
 

@@ -39,7 +39,7 @@ node_most = 4096
 abbrev pub set_most : ℕ
 set_most = 10240
 
--- Memories of the lengths that their types fix. (The logic doesn't know the length of an array behind a reference: what is promised of lent tables supposes it.)
+-- Memories of the lengths that their types fix.
 abbrev pub Sized : (heads nodes sets : List ℕ) → Type 0
 Sized heads nodes sets = (length heads ≡ 3 * head_most) × (length nodes ≡ 3 * node_most) × (length sets ≡ 4 * set_most)
 

@@ -7,10 +7,8 @@ use Rattle.states.specs.declared.States.{States}
 use Rattle.states.specs.Sets.{words, set_of}
 use Rattle.format.specs.Syntax.{top, fact, negation, Epistemic, known, not_known, all_of, any_of, Program, end, act, branch, Action, change, probe, action_nodes, reply_count, Sheet}
 use Rattle.format.specs.Truth.{is_state, holds, truth, reply_holds}
-use Rattle.format.specs.Format.{Answer, gives, refused, on_accepted, given_or}
-use Rattle.reader.specs.Answers.{number_of}
+use Rattle.format.specs.Format.{Answer, gives, on_accepted, given_or}
 use Rattle.routine.specs.declared.memory.Node.{Node}
-use Rattle.routine.specs.declared.sheet.Prepared.{Prepared}
 use Rattle.routine.specs.Memory.{cells}
 
 -- The table of each reply: the states after the effect in which it is true. ("after a probe, the same state, with a reply true in it"; 2013: the states where the reply holds.)
@@ -136,12 +134,7 @@ unfoldable pub sheet_start : Sheet → States
 unfolding set_of is_state holds
 sheet_start sheet = set_of (λ s. is_state sheet s && holds sheet.start s)
 
--- What the answer means: the start set, or the number of the refusal.
-unfoldable pub prepared_of : Prepared → Answer States
-unfolding number_of
-prepared_of (Prepared.Ready start) = gives start
-prepared_of (Prepared.Refused r) = refused (number_of r)
-
+-- The start set of an accepted sheet, or the number of the refusal.
 unfoldable pub start_of : Answer Sheet → Answer States
 unfolding sheet_start on_accepted
 start_of answer = on_accepted (λ (sheet : Sheet). gives (sheet_start sheet)) answer

@@ -10,4 +10,4 @@ mod sheet;
 
 pub use limits::{GOAL, HEAD_CELLS, NODE_CELLS, NODES, SET_WORDS, TRACE};
 pub use memory::{Head, Node, head_at, node_at, set_at};
-pub use sheet::{Prepared, prepare};
+pub use sheet::prepare;

@@ -1,9 +1,11 @@
 // What stands in the lent memory: sets of states, four words each; nodes of a program and of its formulas, and heads of
-// actions, three numbers each.
+// actions, three numbers each. (The three memories are parameters and no struct, here and above: C lends them apart,
+// `recovery_step` no nodes, `recovery_settle` no heads, and a function takes those of them that it reads. Nodes have numbers
+// for kinds and for places, and no boxes: the memory is fixed, and C holds it.)
 ghost use Rattle.std.specs.Prelude.{◌≡◌, [], ◌∷◌, ◌*◌, ◌<◌};
 ghost use Rattle.states.specs.Sets.{words};
 ghost use Rattle.lists.specs.Lists.{write};
-ghost use Rattle.routine.specs.Memory.{flag as flag_of, cells, Small, head_most, node_most, set_most, set_at, node_of, node_at, head_at};
+ghost use Rattle.routine.specs.Memory.{cells, Small, head_most, node_most, set_most, set_at, node_of, node_at, head_at};
 
 use crate::limits::{ACTIONS, HEAD_CELLS, NODE_CELLS, NODES, SET_WORDS, SETS};
 use states::States;
@@ -42,13 +44,6 @@ pub fn set_at(sets: &[u64; SET_WORDS], k: usize) -> States
     States::at(sets, 4 * k)
 }
 
-// A number of the memory as an index.
-fn wide(x: u16) -> usize
-    ensures { (result ≡ x) × (result < 65536) }
-{
-    x as usize
-}
-
 // The node that three numbers are.
 fn node_of(kind: usize, operand: usize, second: usize) -> Node
     ensures { result ≡ node_of kind operand second }
@@ -70,9 +65,9 @@ pub fn node_at(nodes: &[u16; NODE_CELLS], i: usize) -> Node
     if NODES <= i {
         return Node::End(0);
     }
-    let kind = wide(nodes[3 * i]);
-    let operand = wide(nodes[3 * i + 1]);
-    let second = wide(nodes[3 * i + 2]);
+    let kind = nodes[3 * i] as usize;
+    let operand = nodes[3 * i + 1] as usize;
+    let second = nodes[3 * i + 2] as usize;
     node_of(kind, operand, second)
 }
 
@@ -87,13 +82,13 @@ pub fn head_at(heads: &[u16; HEAD_CELLS], a: usize) -> Head
             count: 0,
         };
     }
-    let rows = wide(heads[3 * a]);
-    let replies = wide(heads[3 * a + 1]);
-    let count = wide(heads[3 * a + 2]);
+    let rows = heads[3 * a] as usize;
+    let replies = heads[3 * a + 1] as usize;
+    let count = heads[3 * a + 2] as usize;
     Head {
-        rows: rows,
-        replies: replies,
-        count: count,
+        rows,
+        replies,
+        count,
     }
 }
 
@@ -115,16 +110,6 @@ fn put_cells(nodes: &mut [u16; NODE_CELLS], i: usize, kind: u16, operand: usize,
     nodes[3 * i + 2] = second as u16;
 }
 
-// A truth value as a number.
-fn flag(x: bool) -> usize
-    ensures { (result ≡ flag_of x) × (result < 65536) }
-{
-    if x {
-        return 1;
-    }
-    0
-}
-
 // Writes node i.
 pub(crate) fn put_node(nodes: &mut [u16; NODE_CELLS], i: usize, node: Node)
     requires { (i < node_most) × Small node }
@@ -134,8 +119,8 @@ pub(crate) fn put_node(nodes: &mut [u16; NODE_CELLS], i: usize, node: Node)
         Node::Act(a, number) => put_cells(nodes, i, 0, a, number),
         Node::Branch(met, unmet) => put_cells(nodes, i, 1, met, unmet),
         Node::Jump(skip) => put_cells(nodes, i, 2, skip, 0),
-        Node::Join(all, size) => put_cells(nodes, i, 3, size, flag(all)),
-        Node::Atom(positive, k) => put_cells(nodes, i, 4, k, flag(positive)),
+        Node::Join(all, size) => put_cells(nodes, i, 3, size, all as usize),
+        Node::Atom(positive, k) => put_cells(nodes, i, 4, k, positive as usize),
         Node::End(count) => put_cells(nodes, i, 5, count, 0),
     }
 }

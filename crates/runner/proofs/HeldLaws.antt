@@ -7,7 +7,6 @@ use mathlib.Core.Bool.{true}
 use lib.ListN.{length, replicate, take, drop}
 use lib.Seq.{take-append_seam, drop-append_seam}
 use Rattle.lists.specs.Lists.{every}
-use Rattle.std.specs.Prelude.{if◌then◌else◌}
 use Rattle.lists.proofs.ListLaws.{and_both}
 use Rattle.format.specs.Syntax.{Sheet}
 use Rattle.format.specs.Format.{Answer, gives, refused, on_accepted, reading, most_bytes, most_acts, given_or}

@@ -7,13 +7,14 @@ use contract.Lifetimes.{Lfts}
 use denote.Triple.Entry.{Args}
 use denote.Triple.Clauses.{Lasts, at_exit}
 use Rattle.format.specs.Format.{Answer, gives, refused, reading}
+use Rattle.std.specs.Prelude.{Result}
+use Rattle.reader.specs.declared.refusal.Refusal.{Refusal}
 use Rattle.reader.specs.Answers.{answer_of as read_of, without_value}
-use Rattle.routine.specs.Memory.{Sized}
 use Rattle.routine.specs.Tables.{TablesAfter}
 use Rattle.runner.specs.declared.calls.Record.{Record}
-use Rattle.runner.specs.declared.calls.AfterLoad.{AfterLoad}
-use Rattle.runner.specs.declared.calls.AfterNext.{AfterNext}
-use Rattle.runner.specs.declared.calls.AfterReport.{AfterReport}
+use Rattle.runner.specs.declared.answer.Rejection.{Rejection}
+use Rattle.runner.specs.declared.answer.Told.{Told}
+use Rattle.runner.specs.declared.calls.After.{After}
 use Rattle.runner.specs.Records.{loaded, sheet_in, next_on, report_on, record_after}
 use Rattle.runner.specs.Answers.{told_of, reported_of}
 use Rattle.runner.specs.Calls.{Call, Form, own, lent, CallAnswer, done_or, told_answer, answer_on, record_left, Runner}
@@ -31,6 +32,16 @@ use Rattle.runner.proofs.calls.Record.report.Reads as report-reads
 use Rattle.runner.specs.contracts.calls.Record.report_in as report-in
 use Rattle.runner.proofs.calls.Record.report_in.Reads as report-in-reads
 
+-- What the calls give: an answer and the record to keep.
+abbrev pub AfterLoad : Type 0
+AfterLoad = After (Result (Unit {0}) Refusal)
+
+abbrev pub AfterNext : Type 0
+AfterNext = After (Result Told Rejection)
+
+abbrev pub AfterReport : Type 0
+AfterReport = After (Result (Unit {0}) Rejection)
+
 -- `Record::load` of a lent sheet; `next` and `report` on a record.
 abbrev pub LoadMay : (bytes : List ℕ) → AfterLoad → Type 0
 LoadMay bytes l = (κs : Lfts 1) × (a : Args load.signature κs) × (ws : Lasts load.ended κs a) × (a.0.now ≡ bytes) × load-reads.Learnt κs a l (at_exit load.ended κs a ws)
@@ -47,12 +58,12 @@ LoadInMay bytes l = (κs : Lfts 4) × (a : Args load-in.signature κs) × (ws : 
 
 abbrev pub NextInMay : Record → AfterNext → Type 0
 NextInMay r t =
-    (κs : Lfts 3) × (a : Args next-in.signature κs) × (ws : Lasts next-in.ended κs a) × (a.0 ≡ r) × Sized a.1.0.now a.1.1.0.now a.1.1.1.0.now
+    (κs : Lfts 3) × (a : Args next-in.signature κs) × (ws : Lasts next-in.ended κs a) × (a.0 ≡ r)
     × next-in-reads.Learnt κs a t (at_exit next-in.ended κs a ws)
 
 abbrev pub ReportInMay : Record → (reply : ℕ) → AfterReport → Type 0
 ReportInMay r x t =
-    (κs : Lfts 3) × (a : Args report-in.signature κs) × (ws : Lasts report-in.ended κs a) × (a.0 ≡ r) × (a.1.0 ≡ x) × Sized a.1.1.0.now a.1.1.1.0.now a.1.1.1.1.0.now
+    (κs : Lfts 3) × (a : Args report-in.signature κs) × (ws : Lasts report-in.ended κs a) × (a.0 ≡ r) × (a.1.0 ≡ x)
     × report-in-reads.Learnt κs a t (at_exit report-in.ended κs a ws)
 
 -- What a call may do.
@@ -81,11 +92,11 @@ load_in_promised : (bytes : List ℕ) (l : AfterLoad) → LoadInMay bytes l → 
 load_in_promised bytes l c = (c.4.0 ∙ ap (λ (b : List ℕ). without_value (reading b)) c.3, c.4.1 ∙ ap loaded c.3)
 
 next_in_promised : (r : Record) (t : AfterNext) → NextInMay r t → (told_of t.answer ≡ next_on r) × (t.kept ≡ r)
-next_in_promised r t c = (c.5.0 c.4 ∙ ap next_on c.3, c.5.1 ∙ c.3)
+next_in_promised r t c = (c.4.0 ∙ ap next_on c.3, c.4.1 ∙ c.3)
 
 report_in_promised : (r : Record) (x : ℕ) (t : AfterReport) → ReportInMay r x t → (reported_of t.answer ≡ without_value (report_on r x)) × (t.kept ≡ record_after r x)
 report_in_promised r x t c =
-    ((c.6.0 c.5).0 ∙ (λ i. without_value (report_on (c.3 i) (c.4 i))), (c.6.0 c.5).1 ∙ (λ i. record_after (c.3 i) (c.4 i)))
+    (c.5.0 ∙ (λ i. without_value (report_on (c.3 i) (c.4 i))), c.5.1 ∙ (λ i. record_after (c.3 i) (c.4 i)))
 
 -- So the answer and the record after it are those of the definitions.
 done_without : {A : Type 0} (x : Answer A) → done_or (without_value x) ≡ done_or x
@@ -135,4 +146,4 @@ module _ (κs : Lfts 3) (a : Args next-in.signature κs) (ws : Lasts next-in.end
 module _ (κs : Lfts 3) (a : Args report-in.signature κs) (ws : Lasts report-in.ended κs a) (t : AfterReport) (learnt : report-in-reads.Learnt κs a t (at_exit report-in.ended κs a ws)) where
   pub report_lent : TablesAfter (sheet_in a.0) a.1.1.0.now a.1.1.1.0.now a.1.1.1.1.0.now
       (at_exit report-in.ended κs a ws).1.1.0.now (at_exit report-in.ended κs a ws).1.1.1.0.now (at_exit report-in.ended κs a ws).1.1.1.1.0.now
-  report_lent = learnt.1
+  report_lent = learnt.2

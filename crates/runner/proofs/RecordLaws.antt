@@ -12,9 +12,7 @@ use lib.Dec.{leb}
 use Rattle.lists.proofs.ListLaws.{both_true}
 use Rattle.format.specs.Syntax.{Sheet}
 use Rattle.format.specs.Format.{Answer, gives, refused, reading, most_bytes, most_acts, given_or}
-use Rattle.reader.specs.declared.refusal.Refusal.{Refusal}
-use Rattle.reader.specs.declared.sheet.Acceptance.{Acceptance}
-use Rattle.reader.specs.Answers.{number_of, answer_of, without_value}
+use Rattle.reader.specs.Answers.{without_value}
 use Rattle.reader.proofs.AnswerLaws.{was_accepted, was_refused}
 use Rattle.format.proofs.SheetLaws.{accepted_length}
 use Rattle.runner.specs.Records.{padded, are_zero, record_of, zeros, loaded, is_padded}
@@ -34,20 +32,6 @@ module _ (bytes : List ℕ) (i : ℕ) where
   pub zero_yes : i < length bytes → get_or bytes i 0 ≡ 0 → are_zero (drop i bytes) ≡ are_zero (drop (i + 1) bytes)
   unfolding are_zero
   zero_yes h n = rw (add-one, drop-cons bytes i 0 h, eq-eqb _ _ n)
-
--- The first of some zeros.
-zeros_less : (n i : ℕ) → i < n → replicate {A = ℕ} (n - i) 0 ≡ 0 ∷ replicate {A = ℕ} (n - (i + 1)) 0
-zeros_less n i h =
-    let e : n - i ≡ suc (n - (i + 1)) = omega arith in
-    rw e
-
--- One more byte is copied over the zeros.
-pub pad_more : (n : ℕ) (bytes : List ℕ) (i : ℕ) → i < length bytes → length bytes ≤ n
-    → set (take i bytes ++ replicate {A = ℕ} (n - i) 0) i (get_or bytes i 0) ≡ take (i + 1) bytes ++ replicate {A = ℕ} (n - (i + 1)) 0
-pad_more n bytes i h k =
-    let l : i ≤ length bytes = omega arith in
-    let m : i < n = omega arith in
-    rw (zeros_less n i m, set_at (take i bytes) 0 (replicate {A = ℕ} (n - (i + 1)) 0) (get_or bytes i 0) i (length-take-le i bytes l), add-one, take-suc bytes i 0 h, append_assoc)
 
 -- Every byte is copied.
 pub pad_end : (n : ℕ) (bytes : List ℕ) (i : ℕ) → i ≡ length bytes → take i bytes ++ replicate {A = ℕ} (n - i) 0 ≡ padded n bytes
@@ -84,8 +68,7 @@ module _ (bytes : List ℕ) where
   loaded_for x e = ap (given_or zeros (λ (sheet : Sheet). record_of bytes [])) e
 
   -- Accepted bytes fit into the record.
-  pub accepted_fits : answer_of Acceptance.Accepted ≡ without_value (reading bytes) → length bytes ≤ most_bytes
-  unfolding answer_of
+  pub accepted_fits : gives tt ≡ without_value (reading bytes) → length bytes ≤ most_bytes
   accepted_fits e = let a = was_accepted (reading bytes) e in accepted_length bytes a.0 a.1
 
   pub loaded_record : (sheet : Sheet) → reading bytes ≡ gives sheet → loaded bytes ≡ record_of bytes []
@@ -93,12 +76,12 @@ module _ (bytes : List ℕ) where
   loaded_record sheet read = loaded_for (gives sheet) read
 
   -- Of accepted bytes the record is they and zeros behind them, with no replies.
-  pub loaded_accepted : answer_of Acceptance.Accepted ≡ without_value (reading bytes)
+  pub loaded_accepted : gives tt ≡ without_value (reading bytes)
       → loaded bytes ≡ record { sheet = padded most_bytes bytes; len = length bytes; replies = replicate most_acts 0; count = 0 }
-  unfolding answer_of record_of
+  unfolding record_of
   loaded_accepted e = let a = was_accepted (reading bytes) e in loaded_record a.0 a.1
 
   -- Of refused bytes the record is that of zeros.
-  pub loaded_refused : (r : Refusal) → answer_of (Acceptance.Refused r) ≡ without_value (reading bytes) → loaded bytes ≡ zeros
-  unfolding answer_of given_or
-  loaded_refused r e = loaded_for (refused (number_of r)) (was_refused (reading bytes) (number_of r) e)
+  pub loaded_refused : (r : ℕ) → refused r ≡ without_value (reading bytes) → loaded bytes ≡ zeros
+  unfolding given_or
+  loaded_refused r e = loaded_for (refused r) (was_refused (reading bytes) r e)

@@ -8,12 +8,13 @@ use native.Mathlib.Omega.{arith}
 use lib.Dec.{ltb}
 use lib.ListN.{length, take}
 use Rattle.lists.specs.Lists.{nonempty}
-use Rattle.std.specs.Prelude.{if◌then◌else◌}
+use Rattle.std.specs.Prelude.{if◌then◌else◌, Some, None, Result, Ok, Err}
 use Rattle.lists.proofs.ListLaws.{two_cases, not_both}
 use Rattle.states.specs.declared.States.{States}
 use Rattle.states.specs.Sets.{members}
 use Rattle.format.specs.Syntax.{reply_count, Sheet, action_of}
 use Rattle.format.specs.Format.{Answer, gives, refused, on_accepted, reading, most_bytes, most_acts}
+use Rattle.reader.specs.declared.refusal.Refusal.{Refusal}
 use Rattle.reader.specs.Answers.{answer_of, without_value}
 use Rattle.semantics.specs.Runs.{Entry, entry, History, extended, replies, holds_after, occurs}
 use Rattle.semantics.specs.Routine.{Policy, done, perform, routine, Follows, Following}
@@ -31,13 +32,10 @@ use Rattle.progression.proofs.RoutineLaws.{Reached, AtAction, AtEnd, start_reach
 use Rattle.progression.proofs.PassLaws.{passed_possible}
 use Rattle.runner.specs.declared.answer.Rejection.{Rejection}
 use Rattle.runner.specs.declared.answer.Told.{Told}
-use Rattle.runner.specs.declared.answer.Reported.{Reported}
-use Rattle.runner.specs.declared.walk.Walked.{Walked}
-use Rattle.runner.specs.declared.walk.Judged.{Judged}
 use Rattle.runner.specs.declared.calls.Record.{Record}
 use Rattle.runner.specs.Records.{held_sheet, held_replies, is_padded, sheet_in, are_replies, held_by, next_on, report_on}
 use Rattle.runner.specs.Answers.{bad_record, told_of, reported_of}
-use Rattle.runner.specs.Walks.{walked_of, goes_on, stands_from, stands_by, walked, stands, judged, judged_at, told_at, accepted_at}
+use Rattle.runner.specs.Walks.{Stand, walked_of, goes_on, stands_from, stands_by, walked, stands, judged, judged_at, told_at, accepted_at}
 use Rattle.runner.proofs.CallLaws.{sheet_padded, sheet_not, held_is, held_refused}
 use Rattle.runner.proofs.StandLaws.{none_left, one_left, end_stops, none_possible, some_possible, answered, judged_by_law}
 
@@ -82,20 +80,20 @@ module _ (sheet : Sheet) where
 
   module _ (heads nodes sets : List ℕ) where
     -- Where the replies lead, and what they are by definition: not those of a run; those of a run at its end; or those of a run before an action.
-    pub record NoRun (stand : Walked) (all : List ℕ) : Type 0 where
-      pub stands : stand ≡ Walked.Nowhere
+    pub record NoRun (stand : Stand) (all : List ℕ) : Type 0 where
+      pub stands : stand ≡ None
       pub no_run : are_of_run sheet all ≡ false
 
-    pub record Ended (stand : Walked) (all : List ℕ) : Type 0 where
+    pub record Ended (stand : Stand) (all : List ℕ) : Type 0 where
       pub history : History
       pub replied : replies history ≡ all
       pub follows : Follows (routine sheet) history
       pub occurred : occurs sheet history ≡ true
       pub set : States
-      pub stands : stand ≡ Walked.At (Place.End (holds_after sheet history sheet.goal)) set
+      pub stands : stand ≡ Some (Place.End (holds_after sheet history sheet.goal), set)
       pub nothing : left (replies history) ≡ done
 
-    pub record Acting (stand : Walked) (all : List ℕ) : Type 0 where
+    pub record Acting (stand : Stand) (all : List ℕ) : Type 0 where
       pub history : History
       pub replied : replies history ≡ all
       pub follows : Follows (routine sheet) history
@@ -103,9 +101,9 @@ module _ (sheet : Sheet) where
       pub node : ℕ
       pub set : States
       pub acts : AtAction sheet heads nodes sets history node set
-      pub stands : stand ≡ Walked.At (Place.Act acts.place acts.action) set
+      pub stands : stand ≡ Some (Place.Act acts.place acts.action, set)
 
-    abbrev pub Led : (stand : Walked) (all : List ℕ) → Type 0
+    abbrev pub Led : (stand : Stand) (all : List ℕ) → Type 0
     Led stand all = NoRun stand all ⊎ (Ended stand all ⊎ Acting stand all)
 
     module _ (bytes : List ℕ) (read : reading bytes ≡ gives sheet) (tabled : Tabled sheet heads nodes sets) where
@@ -120,7 +118,7 @@ module _ (sheet : Sheet) where
         node = at;
         set = set;
         acts = x;
-        stands = none_left heads nodes sets set at ∙ ap (λ (p : Place). Walked.At p set) x.settles;
+        stands = none_left heads nodes sets set at ∙ ap (λ (p : Place). Some (p, set)) x.settles;
       }))
       none_more h at set reached o (inr x) = inr (inl (record {
         history = h;
@@ -128,16 +126,16 @@ module _ (sheet : Sheet) where
         follows = reached.follows;
         occurred = o;
         set = set;
-        stands = none_left heads nodes sets set at ∙ ap (λ (p : Place). Walked.At p set) x.settles;
+        stands = none_left heads nodes sets set at ∙ ap (λ (p : Place). Some (p, set)) x.settles;
         nothing = x.nothing;
       }))
 
       -- One reply, and others behind it.
       module _ (h : History) (at : ℕ) (set : States) (reached : Reached sheet heads nodes sets h at set) (r : ℕ) (rs : List ℕ) where
-        abbrev onward : States → (next : ℕ) → Walked
+        abbrev onward : States → (next : ℕ) → Stand
         onward after next = stands_from heads nodes sets after next rs
 
-        abbrev here : Walked
+        abbrev here : Stand
         here = stands_from heads nodes sets set at (r ∷ rs)
 
         abbrev all : List ℕ
@@ -192,7 +190,7 @@ module _ (sheet : Sheet) where
           go (inl x) later =
               ⊎_elim (λ (e : nonempty (members (stepped heads sets set x.action r)) ≡ true).
               let l = later (extended h x.action r) (x.place + 1) (stepped heads sets set x.action r) (x.onward r) (reply_occurs h at set reached r rs x ∙ e) in
-              subst (λ (s : Walked). Led s (replies h ++ (r ∷ rs))) (sym (allowed_stands h at set reached r rs x e))
+              subst (λ (s : Stand). Led s (replies h ++ (r ∷ rs))) (sym (allowed_stands h at set reached r rs x e))
               (subst (Led (stands_from heads nodes sets (stepped heads sets set x.action r) (x.place + 1) rs)) (one_more h at set reached r rs x) l))
               (λ e. inl (not_allowed h at set reached r rs x e)) (two_cases (nonempty (members (stepped heads sets set x.action r))))
 
@@ -212,9 +210,9 @@ module _ (sheet : Sheet) (rs : List ℕ) where
   act_reported a after h r has some e f = λ i. if e i then (if f i then gives (rs ++ (r ∷ [])) else refused 34) else refused 33
 
 -- What a judgement answers.
-unfoldable pub report_of : Judged → Reported
-report_of (Judged.Kept set) = Reported.Accepted
-report_of (Judged.Refused why) = Reported.Refused why
+unfoldable pub report_of : Result States Rejection → Result (Unit {0}) Rejection
+report_of (Ok set) = Ok tt
+report_of (Err why) = Err why
 
 -- The answer's number is that of the report.
 same_answer : (has some : Bool) (kept : States) (xs : List ℕ) → reported_of (report_of (answered has some kept)) ≡ without_value (if has then (if some then gives xs else refused 34) else refused 33)
@@ -229,15 +227,15 @@ by_run b a = if b then a else bad_record
 
 module _ (bytes : List ℕ) (sheet : Sheet) (read : reading bytes ≡ gives sheet) (heads nodes sets : List ℕ) (tabled : Tabled sheet heads nodes sets) (rs : List ℕ) where
   -- What is told where the replies lead is what "Next" tells.
-  led_told : (stand : Walked) → Led sheet heads nodes sets stand rs → told_of (told_at stand) ≡ by_run (are_of_run sheet rs) (gives (told sheet rs))
+  led_told : (stand : Stand) → Led sheet heads nodes sets stand rs → told_of (told_at (Ok stand)) ≡ by_run (are_of_run sheet rs) (gives (told sheet rs))
   unfolding told_of told_at told_by
-  led_told stand (inl x) = ap (λ (s : Walked). told_of (told_at s)) x.stands ∙ sym (ap (λ (b : Bool). by_run b (gives (told sheet rs))) x.no_run)
+  led_told stand (inl x) = ap (λ (s : Stand). told_of (told_at (Ok s))) x.stands ∙ sym (ap (λ (b : Bool). by_run b (gives (told sheet rs))) x.no_run)
   led_told stand (inr (inl x)) =
-      ap (λ (s : Walked). told_of (told_at s)) x.stands
+      ap (λ (s : Stand). told_of (told_at (Ok s))) x.stands
       ∙ sym (ap (λ (b : Bool). by_run b (gives (told sheet rs))) (run_replies sheet x.history x.follows x.occurred rs x.replied)
       ∙ ap gives (told_by_law sheet x.history x.follows rs x.replied done x.nothing))
   led_told stand (inr (inr x)) =
-      ap (λ (s : Walked). told_of (told_at s)) x.stands
+      ap (λ (s : Stand). told_of (told_at (Ok s))) x.stands
       ∙ sym (ap (λ (b : Bool). by_run b (gives (told sheet rs))) (run_replies sheet x.history x.follows x.occurred rs x.replied)
       ∙ ap gives (told_by_law sheet x.history x.follows rs x.replied (perform x.acts.action x.acts.after) x.acts.next))
 
@@ -257,58 +255,55 @@ module _ (bytes : List ℕ) (sheet : Sheet) (read : reading bytes ≡ gives shee
     act_answered h at set x =
         let has = ltb r (reply_count (action_of sheet x.action)) in
         let some = still_possible sheet h (entry x.action r) in
-        ap (λ (j : Judged). reported_of (report_of j))
+        ap (λ (j : Result States Rejection). reported_of (report_of j))
         (judged_by_law heads sets (effect sets (head_at heads x.action) set) x.action r has some (ap (ltb r) (count_is x.action x.known_action))
         (passed_possible heads sets set x.action r ∙ sym (possible_is h at set x)))
         ∙ same_answer has some _ (rs ++ (r ∷ []))
         ∙ ap without_value (sym (act_reported sheet rs x.action x.after h r has some refl refl))
 
     -- What is answered to one reply more where the replies lead is what "Report" answers.
-    led_reported : (stand : Walked) → Led sheet heads nodes sets stand rs → reported_of (report_of (judged_at heads sets stand r)) ≡ without_value (by_run (are_of_run sheet rs) (reported sheet rs r))
+    led_reported : (stand : Stand) → Led sheet heads nodes sets stand rs → reported_of (report_of (judged_at heads sets (Ok stand) r)) ≡ without_value (by_run (are_of_run sheet rs) (reported sheet rs r))
     unfolding reported_of report_of judged_at without_value
-    led_reported stand (inl x) = ap (λ (s : Walked). reported_of (report_of (judged_at heads sets s r))) x.stands ∙ ap without_value (sym (ap (λ (b : Bool). by_run b (reported sheet rs r)) x.no_run))
+    led_reported stand (inl x) = ap (λ (s : Stand). reported_of (report_of (judged_at heads sets (Ok s) r))) x.stands ∙ ap without_value (sym (ap (λ (b : Bool). by_run b (reported sheet rs r)) x.no_run))
     led_reported stand (inr (inl x)) =
-        ap (λ (s : Walked). reported_of (report_of (judged_at heads sets s r))) x.stands
+        ap (λ (s : Stand). reported_of (report_of (judged_at heads sets (Ok s) r))) x.stands
         ∙ ap without_value (sym (ap (λ (b : Bool). by_run b (reported sheet rs r)) (run_replies sheet x.history x.follows x.occurred rs x.replied)
         ∙ reported_by sheet x.history x.follows rs x.replied done x.nothing r ∙ end_reported sheet rs x.history r))
     led_reported stand (inr (inr x)) =
-        ap (λ (s : Walked). reported_of (report_of (judged_at heads sets s r))) x.stands
+        ap (λ (s : Stand). reported_of (report_of (judged_at heads sets (Ok s) r))) x.stands
         ∙ act_answered x.history x.node x.set x.acts
         ∙ ap without_value (sym (ap (λ (b : Bool). by_run b (reported sheet rs r)) (run_replies sheet x.history x.follows x.occurred rs x.replied)
         ∙ reported_by sheet x.history x.follows rs x.replied (perform x.acts.action x.acts.after) x.acts.next r))
 
 -- What is told and answered, by the meaning of where the code stands.
-unfoldable told_in : Answer Walked → Told
+unfoldable told_in : Answer Stand → Result Told Rejection
 unfolding told_at
-told_in (gives w) = told_at w
-told_in (refused k) = Told.BadRecord
+told_in (gives s) = told_at (Ok s)
+told_in (refused k) = Err Rejection.BadRecord
 
-unfoldable report_in : (heads sets : List ℕ) → Answer Walked → (reply : ℕ) → Reported
+unfoldable report_in : (heads sets : List ℕ) → Answer Stand → (reply : ℕ) → Result (Unit {0}) Rejection
 unfolding judged_at report_of
-report_in heads sets (gives w) reply = report_of (judged_at heads sets w reply)
-report_in heads sets (refused k) reply = Reported.Refused Rejection.BadRecord
+report_in heads sets (gives s) reply = report_of (judged_at heads sets (Ok s) reply)
+report_in heads sets (refused k) reply = Err Rejection.BadRecord
 
-told_in_law : (w : Walked) → told_at w ≡ told_in (walked_of w)
+told_in_law : (w : Result Stand Refusal) → told_at w ≡ told_in (walked_of w)
 unfolding told_at told_in walked_of
-told_in_law (Walked.At place set) = refl
-told_in_law Walked.Nowhere = refl
-told_in_law (Walked.Refused r) = refl
+told_in_law (Ok s) = refl
+told_in_law (Err r) = refl
 
-report_in_law : (heads sets : List ℕ) (w : Walked) (reply : ℕ) → report_of (judged_at heads sets w reply) ≡ report_in heads sets (walked_of w) reply
+report_in_law : (heads sets : List ℕ) (w : Result Stand Refusal) (reply : ℕ) → report_of (judged_at heads sets w reply) ≡ report_in heads sets (walked_of w) reply
 unfolding judged_at report_of report_in walked_of
-report_in_law heads sets (Walked.At place set) reply = refl
-report_in_law heads sets Walked.Nowhere reply = refl
-report_in_law heads sets (Walked.Refused r) reply = refl
+report_in_law heads sets (Ok s) reply = refl
+report_in_law heads sets (Err r) reply = refl
 
 -- What loading answers is what reading does.
-pub accepted_in_law : (heads nodes sets bytes replies : List ℕ) (count : ℕ) (w : Walked) → walked_of w ≡ walked heads nodes sets bytes replies count → answer_of (accepted_at w) ≡ without_value (reading bytes)
+pub accepted_in_law : (heads nodes sets bytes replies : List ℕ) (count : ℕ) (w : Result Stand Refusal) → walked_of w ≡ walked heads nodes sets bytes replies count → answer_of (accepted_at w) ≡ without_value (reading bytes)
 unfolding walked on_accepted start_of accepted_at answer_of walked_of without_value
 accepted_in_law heads nodes sets bytes replies count w e = by_answer w ∙ ap without_value e ∙ go (reading bytes)
   where
-    by_answer : (v : Walked) → answer_of (accepted_at v) ≡ without_value (walked_of v)
-    by_answer (Walked.At place set) = refl
-    by_answer Walked.Nowhere = refl
-    by_answer (Walked.Refused r) = refl
+    by_answer : (v : Result Stand Refusal) → answer_of (accepted_at v) ≡ without_value (walked_of v)
+    by_answer (Ok s) = refl
+    by_answer (Err r) = refl
 
     go : (a : Answer Sheet) → without_value (on_accepted (λ start. gives (stands_by heads nodes sets replies count start)) (start_of a)) ≡ without_value a
     go (gives sheet) = refl
@@ -317,10 +312,10 @@ accepted_in_law heads nodes sets bytes replies count w e = by_answer w ∙ ap wi
 -- Where a record stands, and what is in a table then, by whether its sheet is padded.
 module _ (r : Record) where
   module _ (heads nodes sets : List ℕ) where
-    abbrev by_padding : Bool → Answer Walked
-    by_padding b = if b then walked heads nodes sets (held_sheet r) r.replies r.count else gives Walked.Nowhere
+    abbrev by_padding : Bool → Answer Stand
+    by_padding b = if b then walked heads nodes sets (held_sheet r) r.replies r.count else gives None
 
-    not_there : is_padded most_bytes r.sheet r.len ≡ false → stands heads nodes sets r ≡ gives Walked.Nowhere
+    not_there : is_padded most_bytes r.sheet r.len ≡ false → stands heads nodes sets r ≡ gives None
     unfolding stands
     not_there e = ap by_padding e
 
@@ -328,11 +323,11 @@ module _ (r : Record) where
     unfolding stands
     is_there e = ap by_padding e
 
-    pub stands_not : is_padded most_bytes r.sheet r.len ≡ false → walked_of Walked.Nowhere ≡ stands heads nodes sets r
+    pub stands_not : is_padded most_bytes r.sheet r.len ≡ false → walked_of (Ok None) ≡ stands heads nodes sets r
     unfolding walked_of
     stands_not e = sym (not_there e)
 
-    pub stands_walked : is_padded most_bytes r.sheet r.len ≡ true → (w : Walked) → walked_of w ≡ walked heads nodes sets (take r.len r.sheet) r.replies r.count → walked_of w ≡ stands heads nodes sets r
+    pub stands_walked : is_padded most_bytes r.sheet r.len ≡ true → (w : Result Stand Refusal) → walked_of w ≡ walked heads nodes sets (take r.len r.sheet) r.replies r.count → walked_of w ≡ stands heads nodes sets r
     unfolding held_sheet
     stands_walked e w q = q ∙ sym (is_there e)
 
@@ -349,7 +344,7 @@ module _ (r : Record) where
 -- Of a record, by the tables that were prepared for it.
 module _ (r : Record) (heads nodes sets : List ℕ) (sized : Sized heads nodes sets) (heads' nodes' sets' : List ℕ)
     (tables : TablesAfter (sheet_in r) heads nodes sets heads' nodes' sets') where
-  abbrev there : Answer Walked
+  abbrev there : Answer Stand
   there = stands heads' nodes' sets' r
 
   -- A refused sheet.
@@ -371,7 +366,7 @@ module _ (r : Record) (heads nodes sets : List ℕ) (sized : Sized heads nodes s
         tables_tabled (held_sheet r) sheet read heads nodes sets sized heads' nodes' sets'
         (subst (λ (a : Answer Sheet). TablesAfter a heads nodes sets heads' nodes' sets') (sheet_padded r e) tables)
 
-    abbrev followed : Walked
+    abbrev followed : Stand
     followed = stands_from heads' nodes' sets' (sheet_start sheet) 0 (held_replies r)
 
     led_there : Led sheet heads' nodes' sets' followed (held_replies r)
@@ -379,44 +374,44 @@ module _ (r : Record) (heads nodes sets : List ℕ) (sized : Sized heads nodes s
 
     -- By whether the count fits and only zeros stand past it.
     by_count : (b : Bool) → is_padded most_acts r.replies r.count ≡ b
-        → (there ≡ gives (if b then followed else Walked.Nowhere)) × (held_by r ≡ by_run (b && are_of_run sheet (held_replies r)) (gives sheet))
+        → (there ≡ gives (if b then followed else None)) × (held_by r ≡ by_run (b && are_of_run sheet (held_replies r)) (gives sheet))
     unfolding stands_by are_replies held_replies
     by_count b q = (
-      stands_there ∙ ap (λ (c : Bool). gives (if c then followed else Walked.Nowhere)) q,
+      stands_there ∙ ap (λ (c : Bool). gives (if c then followed else None)) q,
       held_is r sheet (b && are_of_run sheet (held_replies r)) holds_sheet (ap (λ (c : Bool). c && are_of_run sheet (take r.count r.replies)) q),
     )
 
     told_there : (b : Bool) → is_padded most_acts r.replies r.count ≡ b → told_of (told_in there) ≡ next_on r
     unfolding told_of told_in next_on on_accepted
     told_there true q =
-        ap (λ (a : Answer Walked). told_of (told_in a)) (by_count true q).0 ∙ led_told (held_sheet r) sheet read heads' nodes' sets' tabled_there (held_replies r) followed led_there
+        ap (λ (a : Answer Stand). told_of (told_in a)) (by_count true q).0 ∙ led_told (held_sheet r) sheet read heads' nodes' sets' tabled_there (held_replies r) followed led_there
         ∙ sym (ap (on_accepted (λ (s : Sheet). gives (told s (held_replies r)))) (by_count true q).1 ∙ go (are_of_run sheet (held_replies r)))
       where
         go : (c : Bool) → on_accepted (λ (s : Sheet). gives (told s (held_replies r))) (by_run c (gives sheet)) ≡ by_run c (gives (told sheet (held_replies r)))
         go true = refl
         go false = refl
     told_there false q =
-        ap (λ (a : Answer Walked). told_of (told_in a)) (by_count false q).0 ∙ sym (ap (on_accepted (λ (s : Sheet). gives (told s (held_replies r)))) (by_count false q).1)
+        ap (λ (a : Answer Stand). told_of (told_in a)) (by_count false q).0 ∙ sym (ap (on_accepted (λ (s : Sheet). gives (told s (held_replies r)))) (by_count false q).1)
 
     report_there : (x : ℕ) (b : Bool) → is_padded most_acts r.replies r.count ≡ b → reported_of (report_in heads' sets' there x) ≡ without_value (report_on r x)
     unfolding reported_of without_value report_in report_on on_accepted
     report_there x true q =
-        ap (λ (a : Answer Walked). reported_of (report_in heads' sets' a x)) (by_count true q).0 ∙ led_reported (held_sheet r) sheet read heads' nodes' sets' tabled_there (held_replies r) x followed led_there
+        ap (λ (a : Answer Stand). reported_of (report_in heads' sets' a x)) (by_count true q).0 ∙ led_reported (held_sheet r) sheet read heads' nodes' sets' tabled_there (held_replies r) x followed led_there
         ∙ ap without_value (sym (ap (on_accepted (λ (s : Sheet). reported s (held_replies r) x)) (by_count true q).1 ∙ go (are_of_run sheet (held_replies r))))
       where
         go : (c : Bool) → on_accepted (λ (s : Sheet). reported s (held_replies r) x) (by_run c (gives sheet)) ≡ by_run c (reported sheet (held_replies r) x)
         go true = refl
         go false = refl
     report_there x false q =
-        ap (λ (a : Answer Walked). reported_of (report_in heads' sets' a x)) (by_count false q).0
+        ap (λ (a : Answer Stand). reported_of (report_in heads' sets' a x)) (by_count false q).0
         ∙ ap without_value (sym (ap (on_accepted (λ (s : Sheet). reported s (held_replies r) x)) (by_count false q).1))
 
   -- What "Next" tells and "Report" answers of a record with 31.
-  bad_next : held_by r ≡ bad_record → told_of Told.BadRecord ≡ next_on r
+  bad_next : held_by r ≡ bad_record → told_of (Err Rejection.BadRecord) ≡ next_on r
   unfolding told_of next_on on_accepted
   bad_next e = sym (ap (on_accepted (λ (s : Sheet). gives (told s (held_replies r)))) e)
 
-  bad_report : (x : ℕ) → held_by r ≡ bad_record → reported_of (Reported.Refused Rejection.BadRecord) ≡ without_value (report_on r x)
+  bad_report : (x : ℕ) → held_by r ≡ bad_record → reported_of (Err Rejection.BadRecord) ≡ without_value (report_on r x)
   unfolding reported_of report_on on_accepted without_value
   bad_report x e = sym (ap (λ (a : Answer Sheet). without_value (on_accepted (λ (s : Sheet). reported s (held_replies r) x) a)) e)
 
@@ -426,8 +421,8 @@ module _ (r : Record) (heads nodes sets : List ℕ) (sized : Sized heads nodes s
   told_record = go (is_padded most_bytes r.sheet r.len) refl (reading (held_sheet r)) refl
     where
       go : (b : Bool) → is_padded most_bytes r.sheet r.len ≡ b → (a : Answer Sheet) → reading (held_sheet r) ≡ a → told_of (told_in there) ≡ next_on r
-      go false e a read = ap (λ (w : Answer Walked). told_of (told_in w)) (not_there r heads' nodes' sets' e) ∙ bad_next (held_refused r _ (sheet_not r e))
-      go true e (refused k) read = ap (λ (w : Answer Walked). told_of (told_in w)) (refused_there e k read) ∙ bad_next (held_refused r k (sheet_padded r e ∙ read))
+      go false e a read = ap (λ (w : Answer Stand). told_of (told_in w)) (not_there r heads' nodes' sets' e) ∙ bad_next (held_refused r _ (sheet_not r e))
+      go true e (refused k) read = ap (λ (w : Answer Stand). told_of (told_in w)) (refused_there e k read) ∙ bad_next (held_refused r k (sheet_padded r e ∙ read))
       go true e (gives sheet) read = told_there e sheet read (is_padded most_acts r.replies r.count) refl
 
   report_record : (x : ℕ) → reported_of (report_in heads' sets' there x) ≡ without_value (report_on r x)
@@ -435,13 +430,13 @@ module _ (r : Record) (heads nodes sets : List ℕ) (sized : Sized heads nodes s
   report_record x = go (is_padded most_bytes r.sheet r.len) refl (reading (held_sheet r)) refl
     where
       go : (b : Bool) → is_padded most_bytes r.sheet r.len ≡ b → (a : Answer Sheet) → reading (held_sheet r) ≡ a → reported_of (report_in heads' sets' there x) ≡ without_value (report_on r x)
-      go false e a read = ap (λ (w : Answer Walked). reported_of (report_in heads' sets' w x)) (not_there r heads' nodes' sets' e) ∙ bad_report x (held_refused r _ (sheet_not r e))
-      go true e (refused k) read = ap (λ (w : Answer Walked). reported_of (report_in heads' sets' w x)) (refused_there e k read) ∙ bad_report x (held_refused r k (sheet_padded r e ∙ read))
+      go false e a read = ap (λ (w : Answer Stand). reported_of (report_in heads' sets' w x)) (not_there r heads' nodes' sets' e) ∙ bad_report x (held_refused r _ (sheet_not r e))
+      go true e (refused k) read = ap (λ (w : Answer Stand). reported_of (report_in heads' sets' w x)) (refused_there e k read) ∙ bad_report x (held_refused r k (sheet_padded r e ∙ read))
       go true e (gives sheet) read = report_there e sheet read x (is_padded most_acts r.replies r.count) refl
 
-  pub told_is : (w : Walked) → walked_of w ≡ there → (t : Told) → t ≡ told_at w → told_of t ≡ next_on r
-  told_is w e t q = ap told_of (q ∙ told_in_law w) ∙ ap (λ (a : Answer Walked). told_of (told_in a)) e ∙ told_record
+  pub told_is : (w : Result Stand Refusal) → walked_of w ≡ there → (t : Result Told Rejection) → t ≡ told_at w → told_of t ≡ next_on r
+  told_is w e t q = ap told_of (q ∙ told_in_law w) ∙ ap (λ (a : Answer Stand). told_of (told_in a)) e ∙ told_record
 
-  pub report_is : (x : ℕ) (w : Walked) → walked_of w ≡ there → (j : Judged) → j ≡ judged_at heads' sets' w x → reported_of (report_of j) ≡ without_value (report_on r x)
+  pub report_is : (x : ℕ) (w : Result Stand Refusal) → walked_of w ≡ there → (j : Result States Rejection) → j ≡ judged_at heads' sets' w x → reported_of (report_of j) ≡ without_value (report_on r x)
   report_is x w e j q =
-      ap (λ (k : Judged). reported_of (report_of k)) q ∙ ap reported_of (report_in_law heads' sets' w x) ∙ ap (λ (a : Answer Walked). reported_of (report_in heads' sets' a x)) e ∙ report_record x
+      ap (λ (k : Result States Rejection). reported_of (report_of k)) q ∙ ap reported_of (report_in_law heads' sets' w x) ∙ ap (λ (a : Answer Stand). reported_of (report_in heads' sets' a x)) e ∙ report_record x

@@ -2,41 +2,30 @@
 ghost use Rattle.std.specs.Prelude.{◌≡◌};
 ghost use Rattle.runner.specs.Answers.{rejection_number};
 
-// Why a report is refused.
+// Why "Next" or a report is refused, with document 01's number.
 #[derive(Clone, Copy)]
 pub enum Rejection {
     // The record isn't one that loading and accepted reports make.
-    BadRecord,
+    BadRecord = 31,
     // The routine is at its end.
-    AtEnd,
+    AtEnd = 32,
     // The action has no such reply.
-    NoSuchReply,
+    NoSuchReply = 33,
     // The reply is true in no state still possible.
-    NotPossible,
+    NotPossible = 34,
 }
 
-// The action to do; that the routine is at its end, and whether the goal holds; or the record is refused.
+// The action to do; or that the routine is at its end, and whether the goal holds.
 #[derive(Clone, Copy)]
 pub enum Told {
     Act(usize),
     End(bool),
-    BadRecord,
 }
 
-#[derive(Clone, Copy)]
-pub enum Reported {
-    Accepted,
-    Refused(Rejection),
-}
+impl From<Rejection> for u8 {
+    ghost from_gives = { λ rejection n. n ≡ rejection_number rejection };
 
-// The number of a rejection.
-pub fn number(r: Rejection) -> u8
-    ensures { result ≡ rejection_number r }
-{
-    match r {
-        Rejection::BadRecord => 31,
-        Rejection::AtEnd => 32,
-        Rejection::NoSuchReply => 33,
-        Rejection::NotPossible => 34,
+    fn from(rejection: Rejection) -> u8 {
+        rejection as u8
     }
 }

@@ -3,18 +3,19 @@
 ghost use Rattle.std.specs.Prelude.{◌≡◌, ◌≤◌, length};
 ghost use Rattle.format.specs.Format.{most_bytes, reading};
 ghost use Rattle.reader.specs.Answers.{without_value, answer_of};
-ghost use Rattle.routine.specs.Memory.{Sized};
 ghost use Rattle.routine.specs.Tables.{TablesAfter};
 ghost use Rattle.runner.specs.Records.{padded, zeros, loaded, sheet_in, next_on, report_on, record_after};
 ghost use Rattle.runner.specs.Answers.{told_of, reported_of};
 ghost use Rattle.runner.specs.Walks.{walked_of, stands};
 
-use crate::answer::{Rejection, Reported, Told};
-use crate::walk::{Judged, Walked, acceptance, add, is_padded, tell, walk};
-use reader::Acceptance;
+use crate::answer::{Rejection, Told};
+use crate::walk::{Walked, acceptance, add, is_padded, tell, walk};
+use reader::Refusal;
 use routine::{HEAD_CELLS, NODE_CELLS, SET_WORDS};
+use std::alloc::AllocError;
 
-// A sheet, its length, the replies accepted so far and their count. Bytes past the lengths are 0.
+// A sheet, its length, the replies accepted so far and their count. Bytes past the lengths are 0. (Arrays with lengths, since
+// document 01 asks for "a struct by value holding two arrays and their lengths".)
 #[derive(Clone, Copy)]
 pub struct Record {
     pub sheet: [u8; Record::SHEET],
@@ -24,23 +25,23 @@ pub struct Record {
 }
 
 // An answer, and the record to keep.
-#[derive(Clone, Copy)]
-pub struct AfterLoad {
-    pub answer: Acceptance,
+pub struct After<A> {
+    pub answer: A,
     pub kept: Record,
 }
 
-#[derive(Clone, Copy)]
-pub struct AfterNext {
-    pub answer: Told,
-    pub kept: Record,
+// (Not derived: what is derived for a generic struct calls `clone` of std's types, whose code is shut.)
+impl<A: Copy> Clone for After<A> {
+    ghost is_clone = { λ v w. w ≡ v };
+
+    ghost is_infallible = { λ v. Unit {0} };
+
+    fn clone(&self) -> Result<After<A>, AllocError> {
+        Ok(*self)
+    }
 }
 
-#[derive(Clone, Copy)]
-pub struct AfterReport {
-    pub answer: Reported,
-    pub kept: Record,
-}
+impl<A: Copy> Copy for After<A> {}
 
 // The bytes of a sheet and zeros behind them.
 fn copied(bytes: &[u8]) -> [u8; Record::SHEET]
@@ -48,10 +49,9 @@ fn copied(bytes: &[u8]) -> [u8; Record::SHEET]
     ensures { result ≡ padded most_bytes bytes.now }
 {
     let mut to = [0u8; Record::SHEET];
-    let mut i = 0;
-    while i < bytes.len() {
+    // (Without `copy_from_slice`, a function of std: the closed theorem needs the code of all that is called, and std's is shut.)
+    for i in 0..bytes.len() {
         to[i] = bytes[i];
-        i = i + 1;
     }
     to
 }
@@ -75,36 +75,24 @@ impl Record {
     }
 
     // A record of a sheet with no replies; of a refused sheet the record of zeros.
-    fn begin(bytes: &[u8], answer: Acceptance) -> AfterLoad
+    fn begin(bytes: &[u8], answer: Result<(), Refusal>) -> After<Result<(), Refusal>>
         requires { answer_of answer ≡ without_value (reading bytes.now) }
         ensures { (answer_of result.answer ≡ without_value (reading bytes.now)) × (result.kept ≡ loaded bytes.now) }
     {
-        match answer {
-            Acceptance::Refused(r) => {
-                let kept = Record::zero();
-                AfterLoad {
-                    answer: Acceptance::Refused(r),
-                    kept: kept,
-                }
-            }
-            Acceptance::Accepted => {
-                let sheet = copied(bytes);
-                let kept = Record {
-                    sheet: sheet,
-                    len: bytes.len(),
-                    replies: [0u8; Record::REPLIES],
-                    count: 0,
-                };
-                AfterLoad {
-                    answer: Acceptance::Accepted,
-                    kept: kept,
-                }
-            }
-        }
+        let kept = match answer {
+            Err(_) => Record::zero(),
+            Ok(()) => Record {
+                sheet: copied(bytes),
+                len: bytes.len(),
+                replies: [0u8; Record::REPLIES],
+                count: 0,
+            },
+        };
+        After { answer, kept }
     }
 
     // Loads a sheet. (It is only read: no tables are needed.)
-    pub fn load(bytes: &[u8]) -> AfterLoad
+    pub fn load(bytes: &[u8]) -> After<Result<(), Refusal>>
         ensures { (answer_of result.answer ≡ without_value (reading bytes.now)) × (result.kept ≡ loaded bytes.now) }
     {
         let answer = reader::read(bytes);
@@ -117,7 +105,7 @@ impl Record {
         heads: &mut [u16; HEAD_CELLS],
         nodes: &mut [u16; NODE_CELLS],
         sets: &mut [u64; SET_WORDS],
-    ) -> AfterLoad
+    ) -> After<Result<(), Refusal>>
         ensures { (answer_of result.answer ≡ without_value (reading bytes.now)) × (result.kept ≡ loaded bytes.now) × TablesAfter (reading bytes.now) heads.old nodes.old sets.old heads.new nodes.new sets.new }
     {
         let none = [0u8; Record::REPLIES];
@@ -135,14 +123,11 @@ impl Record {
     ) -> Walked
         ensures { (walked_of result ≡ stands heads.new nodes.new sets.new self) × TablesAfter (sheet_in self) heads.old nodes.old sets.old heads.new nodes.new sets.new }
     {
-        let len = self.len;
-        let count = self.count;
-        let sheet = self.sheet;
-        let replies = self.replies;
-        if !is_padded(&sheet, len) {
-            return Walked::Nowhere;
+        if !is_padded(&self.sheet, self.len) {
+            return Ok(None);
         }
-        walk(&sheet[..len], &replies, count, heads, nodes, sets)
+        let sheet = &self.sheet[..self.len];
+        walk(sheet, &self.replies, self.count, heads, nodes, sets)
     }
 
     // Tells the action to do, or that the routine is at its end and whether the goal holds.
@@ -151,18 +136,15 @@ impl Record {
         heads: &mut [u16; HEAD_CELLS],
         nodes: &mut [u16; NODE_CELLS],
         sets: &mut [u64; SET_WORDS],
-    ) -> AfterNext
-        ensures { (Sized heads.old nodes.old sets.old → told_of result.answer ≡ next_on self) × (result.kept ≡ self) × TablesAfter (sheet_in self) heads.old nodes.old sets.old heads.new nodes.new sets.new }
+    ) -> After<Result<Told, Rejection>>
+        ensures { (told_of result.answer ≡ next_on self) × (result.kept ≡ self) × TablesAfter (sheet_in self) heads.old nodes.old sets.old heads.new nodes.new sets.new }
     {
         let walked = self.stand_in(heads, nodes, sets);
         let answer = tell(walked);
-        AfterNext {
-            answer: answer,
-            kept: self,
-        }
+        After { answer, kept: self }
     }
 
-    pub fn next(self) -> AfterNext
+    pub fn next(self) -> After<Result<Told, Rejection>>
         ensures { (told_of result.answer ≡ next_on self) × (result.kept ≡ self) }
     {
         let mut heads = [0u16; HEAD_CELLS];
@@ -178,36 +160,28 @@ impl Record {
         heads: &mut [u16; HEAD_CELLS],
         nodes: &mut [u16; NODE_CELLS],
         sets: &mut [u64; SET_WORDS],
-    ) -> AfterReport
-        ensures { (Sized heads.old nodes.old sets.old → (reported_of result.answer ≡ without_value (report_on self reply)) × (result.kept ≡ record_after self reply)) × TablesAfter (sheet_in self) heads.old nodes.old sets.old heads.new nodes.new sets.new }
+    ) -> After<Result<(), Rejection>>
+        ensures { (reported_of result.answer ≡ without_value (report_on self reply)) × (result.kept ≡ record_after self reply) × TablesAfter (sheet_in self) heads.old nodes.old sets.old heads.new nodes.new sets.new }
     {
         let walked = self.stand_in(heads, nodes, sets);
         match add(heads, sets, walked, reply as usize) {
-            Judged::Refused(why) => AfterReport {
-                answer: Reported::Refused(why),
+            Err(rejection) => After {
+                answer: Err(rejection),
                 kept: self,
             },
-            Judged::Kept(set) => {
-                let count = self.count;
-                // Never so with tables of their lengths; but these are only supposed, in the promise.
-                if Record::REPLIES <= count {
-                    return AfterReport {
-                        answer: Reported::Refused(Rejection::AtEnd),
-                        kept: self,
-                    };
-                }
+            Ok(_) => {
                 let mut next = self;
-                next.replies[count] = reply;
-                next.count = count + 1;
-                AfterReport {
-                    answer: Reported::Accepted,
+                next.replies[next.count] = reply;
+                next.count += 1;
+                After {
+                    answer: Ok(()),
                     kept: next,
                 }
             }
         }
     }
 
-    pub fn report(self, reply: u8) -> AfterReport
+    pub fn report(self, reply: u8) -> After<Result<(), Rejection>>
         ensures { (reported_of result.answer ≡ without_value (report_on self reply)) × (result.kept ≡ record_after self reply) }
     {
         let mut heads = [0u16; HEAD_CELLS];

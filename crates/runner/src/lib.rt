@@ -5,5 +5,5 @@ mod answer;
 mod calls;
 mod walk;
 
-pub use answer::{Rejection, Reported, Told, number};
-pub use calls::{AfterLoad, AfterNext, AfterReport, Record};
+pub use answer::{Rejection, Told};
+pub use calls::{After, Record};

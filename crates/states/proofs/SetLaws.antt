@@ -15,7 +15,7 @@ use Rattle.std.specs.Prelude.{if◌then◌else◌}
 use Rattle.lists.proofs.ListLaws.{same_test, not_both, both_true, and_both, keep_mem, mem_keep, keep_same, mem_nonempty, nonempty_mem, up_from_mem, mem_up_from}
 use Rattle.states.specs.declared.States.{States}
 use Rattle.states.specs.Sets.{bit, words, words_at, of_words, word, member, word_of, set_of, members, same_states, least_of}
-use Rattle.states.proofs.BitLaws.{bit_not, bit_none, bit_pow, bits_equal, or_none, word_lt, word_bit}
+use Rattle.states.proofs.BitLaws.{bit_none, bit_pow, bits_equal, or_none, word_lt, word_bit}
 
 -- The words of a set are that set.
 pub words_back : (set : States) → of_words (words set) ≡ set
@@ -194,10 +194,6 @@ module _ (op : ℕ → ℕ → ℕ) (f : Bool → Bool → Bool)
       rule k h =
           four (λ i. bit (word (by_word op a b) i) k ≡ f (bit (word a i) k) (bit (word b i) k))
           (bits _ _ k ha.0 hb.0 h) (bits _ _ k ha.1 hb.1 h) (bits _ _ k ha.2 hb.2 h) (bits _ _ k ha.3 hb.3 h)
-
--- The complements of the words make the complement of the set.
-pub pointwise_not : (a : States) → Fitting a → four_words (2 ^ 64 - 1 - a.w0) (2 ^ 64 - 1 - a.w1) (2 ^ 64 - 1 - a.w2) (2 ^ 64 - 1 - a.w3) ≡ set_of (λ s. not (member a s))
-pointwise_not a h = pointwise (λ x y. 2 ^ 64 - 1 - x) (λ x y. not x) (λ x y k hx hy hk. bit_not 64 x k hx hk) (λ x y hx hy. omega arith) a a h h
 
 -- The bits of a word that is 2^j if a test passes, and else 0.
 bit_one : (b : Bool) (j k : ℕ) → bit (if b then 2 ^ j else 0) k ≡ (b && eqb k j)

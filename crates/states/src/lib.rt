@@ -15,7 +15,23 @@ pub struct States {
     pub w3: u64,
 }
 
-// Word i of some; past the end 0.
+// No state.
+const NONE: States = States {
+    w0: 0,
+    w1: 0,
+    w2: 0,
+    w3: 0,
+};
+
+// Every state.
+const EVERY: States = States {
+    w0: u64::MAX,
+    w1: u64::MAX,
+    w2: u64::MAX,
+    w3: u64::MAX,
+};
+
+// Word i of some; past the end 0. (`get` is a function of std, whose code is shut.)
 fn word_at(words: &[u64], i: usize) -> u64
     ensures { result ≡ get_or words.now i 0 }
 {
@@ -84,31 +100,13 @@ impl States {
     pub fn uniform(all: bool) -> States
         ensures { result ≡ set_of (λ s. all) }
     {
-        if all {
-            return States {
-                w0: u64::MAX,
-                w1: u64::MAX,
-                w2: u64::MAX,
-                w3: u64::MAX,
-            };
-        }
-        States {
-            w0: 0,
-            w1: 0,
-            w2: 0,
-            w3: 0,
-        }
+        if all { EVERY } else { NONE }
     }
 
     pub fn empty() -> States
         ensures { result ≡ set_of (λ s. false) }
     {
-        States {
-            w0: 0,
-            w1: 0,
-            w2: 0,
-            w3: 0,
-        }
+        NONE
     }
 
     // The states of n facts: those below 2^n.
@@ -116,60 +114,25 @@ impl States {
         ensures { result ≡ set_of (λ s. ltb s (2 ^ n)) }
     {
         match n {
-            0 => States {
-                w0: 1,
-                w1: 0,
-                w2: 0,
-                w3: 0,
-            },
-            1 => States {
-                w0: 3,
-                w1: 0,
-                w2: 0,
-                w3: 0,
-            },
-            2 => States {
-                w0: 15,
-                w1: 0,
-                w2: 0,
-                w3: 0,
-            },
-            3 => States {
-                w0: 255,
-                w1: 0,
-                w2: 0,
-                w3: 0,
-            },
-            4 => States {
-                w0: 65535,
-                w1: 0,
-                w2: 0,
-                w3: 0,
-            },
+            0 => States { w0: 1, ..NONE },
+            1 => States { w0: 3, ..NONE },
+            2 => States { w0: 15, ..NONE },
+            3 => States { w0: 255, ..NONE },
+            4 => States { w0: 65535, ..NONE },
             5 => States {
                 w0: 4294967295,
-                w1: 0,
-                w2: 0,
-                w3: 0,
+                ..NONE
             },
             6 => States {
                 w0: u64::MAX,
-                w1: 0,
-                w2: 0,
-                w3: 0,
+                ..NONE
             },
             7 => States {
                 w0: u64::MAX,
                 w1: u64::MAX,
-                w2: 0,
-                w3: 0,
+                ..NONE
             },
-            _ => States {
-                w0: u64::MAX,
-                w1: u64::MAX,
-                w2: u64::MAX,
-                w3: u64::MAX,
-            },
+            _ => EVERY,
         }
     }
 
@@ -179,30 +142,10 @@ impl States {
     {
         let w = 1u64 << (s % 64);
         match s / 64 {
-            0 => States {
-                w0: w,
-                w1: 0,
-                w2: 0,
-                w3: 0,
-            },
-            1 => States {
-                w0: 0,
-                w1: w,
-                w2: 0,
-                w3: 0,
-            },
-            2 => States {
-                w0: 0,
-                w1: 0,
-                w2: w,
-                w3: 0,
-            },
-            _ => States {
-                w0: 0,
-                w1: 0,
-                w2: 0,
-                w3: w,
-            },
+            0 => States { w0: w, ..NONE },
+            1 => States { w1: w, ..NONE },
+            2 => States { w2: w, ..NONE },
+            _ => States { w3: w, ..NONE },
         }
     }
 
@@ -226,64 +169,55 @@ impl States {
         self.union(States::one(s))
     }
 
+    // The set whose words a function gives of the words of both.
+    fn zip<F: Fn(u64, u64) -> u64>(self, other: States, f: F) -> States
+        requires { F.IsAlwaysCallable f }
+        ensures w0 { F.post f self.w0 other.w0 result.w0 }
+        ensures w1 { F.post f self.w1 other.w1 result.w1 }
+        ensures w2 { F.post f self.w2 other.w2 result.w2 }
+        ensures w3 { F.post f self.w3 other.w3 result.w3 }
+    {
+        States {
+            w0: f(self.w0, other.w0),
+            w1: f(self.w1, other.w1),
+            w2: f(self.w2, other.w2),
+            w3: f(self.w3, other.w3),
+        }
+    }
+
     // The states in both sets.
     pub fn intersect(self, other: States) -> States
         ensures { result ≡ set_of (λ s. member self s && member other s) }
     {
-        States {
-            w0: self.w0 & other.w0,
-            w1: self.w1 & other.w1,
-            w2: self.w2 & other.w2,
-            w3: self.w3 & other.w3,
-        }
+        self.zip(other, |a, b| a & b)
     }
 
     // The states in either set.
     pub fn union(self, other: States) -> States
         ensures { result ≡ set_of (λ s. member self s || member other s) }
     {
-        States {
-            w0: self.w0 | other.w0,
-            w1: self.w1 | other.w1,
-            w2: self.w2 | other.w2,
-            w3: self.w3 | other.w3,
-        }
+        self.zip(other, |a, b| a | b)
     }
 
     // The states that are in this set and not in the other.
     pub fn difference(self, other: States) -> States
         ensures { result ≡ set_of (λ s. member self s && not (member other s)) }
     {
-        States {
-            w0: self.w0 & !other.w0,
-            w1: self.w1 & !other.w1,
-            w2: self.w2 & !other.w2,
-            w3: self.w3 & !other.w3,
-        }
+        self.zip(other, |a, b| a & !b)
     }
 
     // The states that aren't in the set.
     pub fn complement(self) -> States
         ensures { result ≡ set_of (λ s. not (member self s)) }
     {
-        States {
-            w0: !self.w0,
-            w1: !self.w1,
-            w2: !self.w2,
-            w3: !self.w3,
-        }
+        EVERY.difference(self)
     }
 
     // The states that are in both sets or in neither.
     pub fn agreement(self, other: States) -> States
         ensures { result ≡ set_of (λ s. beq (member self s) (member other s)) }
     {
-        States {
-            w0: !(self.w0 ^ other.w0),
-            w1: !(self.w1 ^ other.w1),
-            w2: !(self.w2 ^ other.w2),
-            w3: !(self.w3 ^ other.w3),
-        }
+        self.zip(other, |a, b| !(a ^ b))
     }
 
     // Whether no state is in the set.
@@ -293,7 +227,7 @@ impl States {
         (self.w0 | self.w1 | self.w2 | self.w3) == 0
     }
 
-    // Whether both sets have the same states.
+    // Whether both sets have the same states. (A derived `==` compares numbers by a function of std, whose code is shut.)
     pub fn equals(self, other: States) -> bool
         ensures { result ≡ same_states self other }
     {
@@ -307,10 +241,9 @@ impl States {
     pub fn least(self) -> u8
         ensures { result ≡ least_of (members self) }
     {
-        for s in 0..256usize {
-            let t = (s % 256) as u8;
-            if self.has(t) {
-                return t;
+        for s in 0..=255u8 {
+            if self.has(s) {
+                return s;
             }
         }
         0

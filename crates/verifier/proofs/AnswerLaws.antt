@@ -1,12 +1,12 @@
 -- From the search and the least run over the tables of an accepted sheet to the verifier's answer and the trace memory. Assumes nothing.
-use Rattle.std.proofs.Common.{◌≡◌, ℕ, ◌+◌, ◌*◌, ◌/◌, ◌%◌, ◌<◌, ◌≤◌, Bool, true, false, ltb, List, [], ◌∷◌, ◌++◌, map, length, get_or, take, drop, sym, refl, ap, ◌∙◌, subst, append_assoc, arith, length-append, take-append-drop}
+use Rattle.std.proofs.Common.{◌≡◌, ℕ, ◌+◌, ◌*◌, ◌/◌, ◌%◌, ◌<◌, ◌≤◌, Bool, true, false, ltb, List, [], ◌∷◌, ◌++◌, map, length, get_or, take, drop, sym, refl, ap, ◌∙◌, subst, append_assoc, append-nil, arith, length-append, take-append-drop}
 use mathlib.Core.List.{Memᴰ}
 use lib.ListN.{length-map}
-use Rattle.std.specs.Prelude.{if◌then◌else◌}
+use Rattle.std.specs.Prelude.{if◌then◌else◌, Result, Ok, Err}
 use Rattle.lists.proofs.ListLaws.{append_past}
 use Rattle.states.specs.declared.States.{States}
 use Rattle.format.specs.Syntax.{Sheet}
-use Rattle.format.specs.Format.{Answer, gives, most_acts, reading}
+use Rattle.format.specs.Format.{refused, Answer, gives, most_acts, reading}
 use Rattle.reader.specs.Answers.{number_of}
 use Rattle.reader.specs.declared.refusal.Refusal.{Refusal}
 use Rattle.format.proofs.SheetLaws.{accepted_shape}
@@ -17,12 +17,12 @@ use Rattle.semantics.proofs.RunLaws.{run_occurs}
 use Rattle.semantics.proofs.VerdictLaws.{listed_failing}
 use Rattle.semantics.proofs.MemoryLaws.{admitted_long, admitted_short, verified_short, verified_accepted, verified_refused}
 use Rattle.semantics.proofs.AcceptedLaws.{EntriesFit, starts, entries_fit}
-use Rattle.routine.specs.declared.sheet.Prepared.{Prepared}
 use Rattle.routine.specs.Memory.{Sized}
-use Rattle.routine.specs.Tables.{sheet_start, prepared_of, start_of, prepared, TablesAfter}
+use Rattle.routine.specs.Tables.{sheet_start, start_of, prepared, TablesAfter}
 use Rattle.routine.proofs.TableLaws.{Tabled, tables_tabled, ready_sheet, refused_sheet}
 use Rattle.verifier.specs.declared.search.Searched.{Searched}
 use Rattle.verifier.specs.declared.verdict.Verdict.{Verdict}
+use Rattle.verifier.specs.declared.verdict.VerifyError.{VerifyError}
 use Rattle.verifier.specs.Search.{Found, passed, failed, over, searched, path_byte, path_bytes, searched_of, SearchedBy}
 use Rattle.verifier.specs.Least.{path_from, least_states}
 use Rattle.verifier.specs.Answers.{answer_of, verified_by, empty_memo, cleared}
@@ -82,7 +82,7 @@ module _ (before after : List ℕ) (places : length before ≡ most_acts) (found
     pub fails : found ≡ failed c history
     pub long : len ≡ length history
     pub short : len ≤ most_acts
-    pub shows : path_from after 0 len ≡ map shown_entry history
+    pub shows : path_from (take len after) 0 (length (take len after)) ≡ map shown_entry history
 
   pub said_failed : (c len : ℕ) → SearchedBy 0 before after (Searched.Failed c len) found → Shows c len
   unfolding searched_of path_bytes
@@ -98,13 +98,15 @@ module _ (before after : List ℕ) (places : length before ≡ most_acts) (found
           let z : 0 + length (bytes_of h) ≡ len = omega (arith, l, length-map h (λ (d : Entry). path_byte d.action d.reply)) in
           let whole : after ≡ bytes_of h ++ drop len after =
           sym (take-append-drop len after) ∙ ap (λ (xs : List ℕ). xs ++ drop len after) (ap (λ (j : ℕ). take j after) (sym z) ∙ p) in
+          let front : take len after ≡ bytes_of h = ap (λ (j : ℕ). take j after) (sym z) ∙ p in
+          let many : length (bytes_of h) ≡ length h = length-map h (λ (d : Entry). path_byte d.action d.reply) in
           let size = s.size in
           record {
             history = h;
             fails = f ∙ ap (λ (j : ℕ). failed j h) m;
             long = l;
             short = omega (arith, size, places, ap length whole, length-append (bytes_of h) (drop len after), l, length-map h (λ (d : Entry). path_byte d.action d.reply));
-            shows = ap (λ (xs : List ℕ). path_from xs 0 len) whole ∙ ap (path_from (bytes_of h ++ drop len after) 0) l ∙ path_shows [] h (drop len after) 0 refl;
+            shows = ap (λ (xs : List ℕ). path_from xs 0 (length xs)) front ∙ ap (path_from (bytes_of h) 0) many ∙ ap (λ (xs : List ℕ). path_from xs 0 (length h)) (sym (append-nil (bytes_of h))) ∙ path_shows [] h [] 0 refl;
           }
 
 module _ (before after : List ℕ) (places : length before ≡ most_acts) (found : Found) (o : Searched) (said : SearchedBy 0 before after o found) where
@@ -124,7 +126,7 @@ module _ (heads sets : List ℕ) (start : States) (budget : ℕ) (old before aft
   unfolding verdict_for memory_for
   over_decides e = rw (said_over before after places found (subst (λ (x : Searched). SearchedBy 0 before after x found) e said)) (refl, refl)
 
-  pub failed_decides : (c len : ℕ) → o ≡ Searched.Failed c len → (memory : List ℕ) → memory ≡ written (trace (path_from after 0 len) (least_states heads sets start (path_from after 0 len))) old
+  pub failed_decides : (c len : ℕ) → o ≡ Searched.Failed c len → (memory : List ℕ) → memory ≡ written (trace (path_from (take len after) 0 (length (take len after))) (least_states heads sets start (path_from (take len after) 0 (length (take len after))))) old
       → (Verdict.Invalid c len ≡ verdict_for budget found) × (memory ≡ memory_for heads sets start found old)
   unfolding verdict_for memory_for
   failed_decides c len e memory m =
@@ -149,7 +151,7 @@ module _ (bytes : List ℕ) (sheet : Sheet) (read : reading bytes ≡ gives shee
 
   -- The verdict and the trace memory by what the search finds.
   abbrev Decides : Found → Outcome → Type 0
-  Decides x o = (answer_of (verdict_for budget x) ≡ gives o.verdict) × ((old : List ℕ) → memory_for heads sets (sheet_start sheet) x old ≡ written o.shown old)
+  Decides x o = (answer_of (Ok (verdict_for budget x)) ≡ gives o.verdict) × ((old : List ℕ) → memory_for heads sets (sheet_start sheet) x old ≡ written o.shown old)
 
   failing_trace : (h : History) → Memᴰ h (failures sheet)
       → trace (map shown_entry h) (least_states heads sets (sheet_start sheet) (map shown_entry h)) ≡ trace h (least_run sheet h)
@@ -179,56 +181,55 @@ module _ (bytes : List ℕ) (sheet : Sheet) (read : reading bytes ≡ gives shee
       go false = concluded_decides (history_count sheet) (failures sheet) refl
 
 -- What the contract says of the answer and of the trace memory.
-pub parts : (r : Verdict) (memory : List ℕ) (v : Verified) → verified_by r memory ≡ v → (answer_of r ≡ v.answer) × (memory ≡ v.memory)
+pub parts : (r : Result Verdict VerifyError) (memory : List ℕ) (v : Verified) → verified_by r memory ≡ v → (answer_of r ≡ v.answer) × (memory ≡ v.memory)
 unfolding verified_by
 parts r memory v e = (ap (λ (x : Verified). x.answer) e, ap (λ (x : Verified). x.memory) e)
 
 -- The whole answer, from the answer of `prepare`.
-module _ (bytes : List ℕ) (budget : ℕ) (old heads nodes sets memo : List ℕ) where
+module _ (bytes : List ℕ) (budget : ℕ) (old heads nodes sets memo : List ℕ) (z : Sized heads nodes sets) where
   -- The tables and the memo for a sheet or a refusal.
   abbrev Left : Answer Sheet → (heads' nodes' sets' memo' : List ℕ) → Type 0
   Left a heads' nodes' sets' memo' = (memo' ≡ cleared a memo) × TablesAfter a heads nodes sets heads' nodes' sets'
 
-  -- The answer and the trace memory are those of the definition, where the tables have their lengths; and so are the tables and the memo.
-  abbrev Answered : Verdict → (memory heads' nodes' sets' memo' : List ℕ) → Type 0
+  -- The answer and the trace memory are those of the definition, and so are the tables and the memo.
+  abbrev Answered : Result Verdict VerifyError → (memory heads' nodes' sets' memo' : List ℕ) → Type 0
   Answered r memory heads' nodes' sets' memo' =
-      (Sized heads nodes sets → verified_by r memory ≡ verified bytes budget old)
+      (verified_by r memory ≡ verified bytes budget old)
       × (memo' ≡ cleared (admitted bytes old) memo)
       × TablesAfter (admitted bytes old) heads nodes sets heads' nodes' sets'
 
-  answered : (a : Answer Sheet) → admitted bytes old ≡ a → (r : Verdict) (memory heads' nodes' sets' memo' : List ℕ)
-      → (Sized heads nodes sets → verified_by r memory ≡ verified bytes budget old) → Left a heads' nodes' sets' memo' → Answered r memory heads' nodes' sets' memo'
+  answered : (a : Answer Sheet) → admitted bytes old ≡ a → (r : Result Verdict VerifyError) (memory heads' nodes' sets' memo' : List ℕ)
+      → verified_by r memory ≡ verified bytes budget old → Left a heads' nodes' sets' memo' → Answered r memory heads' nodes' sets' memo'
   answered a e r memory heads' nodes' sets' memo' v k =
       let m = subst (λ (b : Answer Sheet). Left b heads' nodes' sets' memo') (sym e) k in
       (v, m.0, m.1)
 
-  pub short_answered : length old < longest_trace → Answered Verdict.ShortMemory old heads nodes sets memo
+  pub short_answered : length old < longest_trace → Answered (Err VerifyError.ShortMemory) old heads nodes sets memo
   unfolding verified_by answer_of prepared cleared
-  short_answered l = answered (short_memory) (admitted_short bytes old l) Verdict.ShortMemory old heads nodes sets memo (λ z. sym (verified_short bytes budget old l)) (refl, (refl, refl, refl))
+  short_answered l = answered (short_memory) (admitted_short bytes old l) (Err VerifyError.ShortMemory) old heads nodes sets memo (sym (verified_short bytes budget old l)) (refl, (refl, refl, refl))
 
-  module _ (enough : LongEnough old) (heads' nodes' sets' : List ℕ) (p : Prepared)
-      (tables : (prepared_of p ≡ start_of (reading bytes)) × TablesAfter (reading bytes) heads nodes sets heads' nodes' sets') where
-    pub refused_answered : (r : Refusal) → p ≡ Prepared.Refused r → Answered (Verdict.Refused r) old heads' nodes' sets' memo
+  module _ (enough : LongEnough old) (heads' nodes' sets' : List ℕ) where
+    pub refused_answered : (r : Refusal) → (refused (number_of r) ≡ start_of (reading bytes)) × TablesAfter (reading bytes) heads nodes sets heads' nodes' sets' → (error : VerifyError) → error ≡ VerifyError.Refused r → Answered (Err error) old heads' nodes' sets' memo
     unfolding verified_by answer_of cleared
-    refused_answered r e =
-        let q = refused_sheet (reading bytes) r (sym (ap prepared_of e) ∙ tables.0) in
-        answered (reading bytes) (admitted_long bytes old enough) (Verdict.Refused r) old heads' nodes' sets' memo
-        (λ z. sym (verified_refused bytes (number_of r) q budget old enough)) (ap (λ (a : Answer Sheet). cleared a memo) (sym q), tables.1)
+    refused_answered r tables error k =
+        let q = refused_sheet (reading bytes) (number_of r) tables.0 in
+        answered (reading bytes) (admitted_long bytes old enough) (Err error) old heads' nodes' sets' memo
+        (ap (λ (x : VerifyError). verified_by (Err x) old) k ∙ sym (verified_refused bytes (number_of r) q budget old enough)) (ap (λ (a : Answer Sheet). cleared a memo) (sym q), tables.1)
 
-    pub ready_answered : (start : States) → p ≡ Prepared.Ready start → (r : Verdict) (memory memo' : List ℕ)
+    pub ready_answered : (start : States) → (gives start ≡ start_of (reading bytes)) × TablesAfter (reading bytes) heads nodes sets heads' nodes' sets' → (r : Verdict) (memory memo' : List ℕ)
         → (r ≡ verdict_for budget (searched heads' nodes' sets' budget most_acts 0 start 0)) × (memory ≡ memory_for heads' sets' start (searched heads' nodes' sets' budget most_acts 0 start 0) old) × (memo' ≡ empty_memo)
-        → Answered r memory heads' nodes' sets' memo'
+        → Answered (Ok r) memory heads' nodes' sets' memo'
     unfolding verified_by cleared
-    ready_answered start e r memory memo' k =
-        let q = ready_sheet (reading bytes) start (sym (ap prepared_of e) ∙ tables.0) in
+    ready_answered start tables r memory memo' k =
+        let q = ready_sheet (reading bytes) start tables.0 in
         let sheet = q.0 in
         let at : (States → Found) = λ s. searched heads' nodes' sets' budget most_acts 0 s 0 in
-        let verdict : (Sized heads nodes sets → verified_by r memory ≡ verified bytes budget old) = λ z.
+        let verdict : verified_by (Ok r) memory ≡ verified bytes budget old =
         let tabled : Tabled sheet heads' nodes' sets' = tables_tabled bytes sheet q.1 heads nodes sets z heads' nodes' sets' tables.1 in
         let d = decides bytes sheet q.1 heads' nodes' sets' tabled budget in
-        let x = ap answer_of (k.0 ∙ ap (λ (s : States). verdict_for budget (at s)) q.2) ∙ d.0 in
+        let x = ap (λ (v : Verdict). answer_of (Ok v)) (k.0 ∙ ap (λ (s : States). verdict_for budget (at s)) q.2) ∙ d.0 in
         let y = k.1 ∙ ap (λ (s : States). memory_for heads' sets' s (at s) old) q.2 ∙ d.1 old in
-        let same : verified_by r memory ≡ record { answer = gives (outcome sheet budget).verdict; memory = written (outcome sheet budget).shown old } = λ i. record { answer = x i; memory = y i } in
+        let same : verified_by (Ok r) memory ≡ record { answer = gives (outcome sheet budget).verdict; memory = written (outcome sheet budget).shown old } = λ i. record { answer = x i; memory = y i } in
         same ∙ sym (verified_accepted bytes sheet q.1 budget old enough) in
-        answered (reading bytes) (admitted_long bytes old enough) r memory heads' nodes' sets' memo' verdict
+        answered (reading bytes) (admitted_long bytes old enough) (Ok r) memory heads' nodes' sets' memo' verdict
         (k.2 ∙ ap (λ (a : Answer Sheet). cleared a memo) (sym q.1), tables.1)

@@ -25,9 +25,6 @@ module _ (test : ℕ → Bool) where
   abbrev pub up_to_set : ℕ → States
   up_to_set i = set_of (λ s. ltb s i && test s)
 
-  pub set_start : set_of (λ s. false) ≡ up_to_set 0
-  set_start = set_cong (λ s. false) (λ s. ltb s 0 && test s) (λ s h. rw (le-ltb s 0 (omega arith)))
-
   pub set_done : (i : ℕ) → 256 ≤ i → up_to_set i ≡ set_of test
   set_done i l = set_cong (λ s. ltb s i && test s) test (λ s h. rw (lt-ltb s i (omega arith)))
 
@@ -39,11 +36,10 @@ module _ (test : ℕ → Bool) where
       go s (no p) true q = let l : s < i = ltb-true s i q in rw (q, lt-ltb s (i + 1) (omega arith))
       go s (no p) false q = let l : i ≤ s = ltb-false s i q in rw (q, le-ltb s (i + 1) (omega arith))
 
-  pub set_with : (i : ℕ) → i < 256 → test i ≡ true → (all : States) → all ≡ up_to_set i → set_of (λ s. member all s || eqb s (i % 256)) ≡ up_to_set (i + 1)
+  pub set_with : (i : ℕ) → i < 256 → test i ≡ true → (all : States) → all ≡ up_to_set i → set_of (λ s. member all s || eqb s i) ≡ up_to_set (i + 1)
   set_with i l e all a =
-      let z : i % 256 ≡ i = omega arith in
-      set_cong (λ s. member all s || eqb s (i % 256)) (λ s. ltb s (i + 1) && test s)
-      (λ s h. ap₂ ◌||◌ (ap (λ (x : States). member x s) a ∙ member_set_of (λ s. ltb s i && test s) s h) (ap (eqb s) z) ∙ go s (ℕ_discrete s i) (ltb s i) refl)
+      set_cong (λ s. member all s || eqb s i) (λ s. ltb s (i + 1) && test s)
+      (λ s h. ap (λ (b : Bool). b || eqb s i) (ap (λ (x : States). member x s) a ∙ member_set_of (λ s. ltb s i && test s) s h) ∙ go s (ℕ_discrete s i) (ltb s i) refl)
     where
       go : (s : ℕ) → Dec (s ≡ i) → (b : Bool) → ltb s i ≡ b → (ltb s i && test s || eqb s i) ≡ (ltb s (i + 1) && test s)
       go s (yes p) b q = let f : test s ≡ true = ap test p ∙ e in rw (le-ltb s i (omega arith), lt-ltb s (i + 1) (omega arith), f, eq-eqb s i p)
@@ -290,9 +286,6 @@ module _ (heads sets : List ℕ) where
       pub size : length m ≡ length m₀
       pub behind : drop (2 * k + 1) m ≡ drop (2 * k + 1) m₀
       pub front : take (2 * k + 1) m ++ onward k s ≡ take 1 m₀ ++ onward 0 s₀
-
-    pub at_start : (m₀ : List ℕ) (s₀ : ℕ) → At m₀ s₀ m₀ 0 s₀
-    at_start m₀ s₀ = record { size = refl; behind = refl; front = refl }
 
     pub at_more : (m₀ : List ℕ) (s₀ : ℕ) (m : List ℕ) (k s t action reply : ℕ) (one from feasibleSet both : States) → k < len → 2 * k + 2 < length m
         → action ≡ get_or path k 0 / 8 → reply ≡ get_or path k 0 % 8 → one ≡ set_of (λ u. eqb u s) → from ≡ stepped heads sets one action reply → feasibleSet ≡ rest heads sets path len (k + 1)

@@ -1,21 +1,20 @@
 -- What passes from one count on passes from every count on, with as many histories, until the budget is exceeded, and with more room for actions: so what is remembered of a place serves every
 -- later visit that has as much room or more. Assumes nothing.
-use Rattle.std.proofs.Common.{◌≡◌, ℕ, zero, suc, ◌+◌, ◌-◌, ◌*◌, ◌<◌, ◌≤◌, Bool, true, false, eqb, ltb, List, [], ◌∷◌, length, get_or, set, sym, refl, ap, ◌∙◌, subst, arith, ltb-false, ltb-true, le-ltb, lt-ltb, eqb-true, leb-true}
+use Rattle.std.proofs.Common.{◌≡◌, ℕ, zero, suc, ◌+◌, ◌-◌, ◌*◌, ◌<◌, ◌≤◌, Bool, true, false, ◌&&◌, eqb, leb, ltb, List, [], ◌∷◌, length, get_or, set, sym, refl, ap, ◌∙◌, subst, arith, ltb-false, ltb-true, le-ltb, lt-ltb, eqb-true, leb-true}
 use native.Mathlib.Decide.{ℕ_discrete}
 use lib.ListN.{length-replicate, get_or-replicate}
 use borrow.Author.Tests.{eqb-false}
 use Rattle.lists.specs.Lists.{below, nonempty, write}
-use Rattle.std.specs.Prelude.{if◌then◌else◌}
+use Rattle.std.specs.Prelude.{if◌then◌else◌, Some, None}
 use Rattle.lists.proofs.ListLaws.{both_true}
 use Rattle.states.specs.declared.States.{States}
-use Rattle.states.specs.Sets.{words, members, words_at}
+use Rattle.states.specs.Sets.{words, members, words_at, same_states}
 use Rattle.semantics.specs.Runs.{Entry, entry}
 use Rattle.routine.specs.Memory.{head_at}
 use Rattle.routine.proofs.WriteLaws.{write_length, write_elsewhere, write_back, written_on, four_stores}
 use Rattle.progression.specs.declared.place.Place.{Place}
 use Rattle.progression.specs.Machine.{settled, stepped}
 use Rattle.verifier.specs.declared.memo.Slot.{Slot}
-use Rattle.verifier.specs.declared.memo.Recalled.{Recalled}
 use Rattle.verifier.specs.declared.search.Searched.{Searched}
 use Rattle.verifier.specs.Search.{Found, passed, failed, over, behind, and_then, each_reply, at_place, visit, answered, searched, searched_of, SearchedBy}
 use Rattle.verifier.specs.Answers.{slot_most, slot_size, empty_memo}
@@ -231,13 +230,22 @@ module _ (memory : List ℕ) (j : ℕ) (k : Slot) where
 
 -- What is recalled.
 module _ (k : Slot) (set : States) (onward action depth : ℕ) where
-  pub recalled_passed : serves k set onward action depth ≡ true → Recalled.Passed k.behind ≡ recalled k set onward action depth
-  unfolding recalled
-  recalled_passed e = rw e
+  -- The slot's test, as the code makes it.
+  module _ (same : Bool) (e : same ≡ same_states k.set set) where
+    abbrev tested : Bool → Bool
+    tested b = ((eqb k.onward onward && eqb k.action action) && b) && leb depth k.depth
 
-  pub recalled_nothing : serves k set onward action depth ≡ false → Recalled.Nothing ≡ recalled k set onward action depth
-  unfolding recalled
-  recalled_nothing e = rw e
+    serving : (b : Bool) → tested same ≡ b → serves k set onward action depth ≡ b
+    unfolding serves
+    serving b t = ap tested (sym e) ∙ t
+
+    pub recalled_passed : tested same ≡ true → Some k.behind ≡ recalled k set onward action depth
+    unfolding recalled
+    recalled_passed t = rw (serving true t)
+
+    pub recalled_nothing : tested same ≡ false → None ≡ recalled k set onward action depth
+    unfolding recalled
+    recalled_nothing t = rw (serving false t)
 
   -- A slot that serves is the place's own, but for its depth.
   record Told (v : ℕ) : Type 0 where
@@ -268,11 +276,11 @@ module _ (k : Slot) (set : States) (onward action depth : ℕ) where
         number = refl;
       }
 
-  recalled_told : (v : ℕ) → recalled k set onward action depth ≡ Recalled.Passed v → Told v
+  recalled_told : (v : ℕ) → recalled k set onward action depth ≡ Some v → Told v
   unfolding recalled
   recalled_told v = go (serves k set onward action depth) refl
     where
-      go : (b : Bool) → serves k set onward action depth ≡ b → (if b then Recalled.Passed k.behind else Recalled.Nothing) ≡ Recalled.Passed v → Told v
+      go : (b : Bool) → serves k set onward action depth ≡ b → (if b then Some k.behind else None) ≡ Some v → Told v
       go true s e = let same : k.behind ≡ v = cc in subst Told same (serves_told s)
       go false s e = let z : ◌≡◌ {A = ℕ} 0 1 = cc in absurd (omega arith)
 
@@ -348,7 +356,7 @@ module _ (heads nodes sets : List ℕ) (budget : ℕ) where
 
   -- The search at an action of which a slot tells.
   pub recalled_found : (depth at c node action : ℕ) (set : States) → depth < 64 → c ≤ budget → settled nodes sets set at ≡ Place.Act node action → (memory : List ℕ) (j v : ℕ)
-      → Sound heads nodes sets budget memory → j < slot_most → recalled (slot_at memory j) set (node + 1) action depth ≡ Recalled.Passed v
+      → Sound heads nodes sets budget memory → j < slot_most → recalled (slot_at memory j) set (node + 1) action depth ≡ Some v
       → searched heads nodes sets budget (64 - depth) at set c ≡ reaching budget (c + v)
   recalled_found depth at c node action set room m place memory j v sound l e =
       searched_answered heads nodes sets budget (64 - depth) at set c node action place (64 - (depth + 1)) (omega (arith, room))

@@ -1,13 +1,12 @@
 -- The method: what the search remembers of places from which everything passed. An auditor of the promises needs none of it;
 -- proofs/MemoLaws.antt shows that what is recalled is what the search would find.
-use Rattle.std.specs.Prelude.{if◌then◌else◌, ◌≡◌, ℕ, ◌+◌, ◌*◌, ◌<◌, ◌≤◌, Bool, ◌&&◌, List, [], ◌∷◌, length, ◌==◌, nat_le, nat_lt, slice_index, refl}
-use Rattle.states.specs.Sets.{words, words_at}
+use Rattle.std.specs.Prelude.{if◌then◌else◌, ◌≡◌, ℕ, ◌+◌, ◌*◌, ◌<◌, ◌≤◌, Bool, ◌&&◌, List, [], ◌∷◌, length, ◌==◌, nat_le, nat_lt, slice_index, Option, Some, None, refl}
+use Rattle.states.specs.Sets.{words, words_at, same_states}
 use Rattle.format.specs.Format.{most_acts}
 use Rattle.states.specs.declared.States.{States}
 use Rattle.format.specs.Syntax.{fact, negation, Epistemic, known, any_of}
 use Rattle.routine.specs.Tables.{sheet_heads, node_cells, set_words, low}
 use Rattle.verifier.specs.declared.memo.Slot.{Slot}
-use Rattle.verifier.specs.declared.memo.Recalled.{Recalled}
 use Rattle.verifier.specs.Answers.{slot_most, slot_size}
 use Rattle.verifier.specs.Search.{Found, passed, over, answered, searched, asked}
 
@@ -29,15 +28,14 @@ slot_words k = k.onward ∷ k.action ∷ k.depth ∷ k.behind ∷ words k.set
 
 -- A slot serves a place: its node, its action and its set are the same, and there was as much room for actions or less.
 unfoldable pub serves : Slot → States → (onward action depth : ℕ) → Bool
+unfolding same_states
 serves k set onward action depth =
-    (k.onward == onward) && k.action == action
-    && (k.set.w0 == set.w0 && k.set.w1 == set.w1 && k.set.w2 == set.w2 && k.set.w3 == set.w3)
-    && nat_le depth k.depth
+    (k.onward == onward) && k.action == action && same_states k.set set && nat_le depth k.depth
 
 -- What a slot tells of a place.
-unfoldable pub recalled : Slot → States → (onward action depth : ℕ) → Recalled
+unfoldable pub recalled : Slot → States → (onward action depth : ℕ) → Option ℕ
 unfolding serves
-recalled k set onward action depth = if serves k set onward action depth then Recalled.Passed k.behind else Recalled.Nothing
+recalled k set onward action depth = if serves k set onward action depth then Some k.behind else None
 
 -- So many histories counted, none of which fails; or the budget exceeded.
 unfoldable pub reaching : (budget n : ℕ) → Found
@@ -62,32 +60,32 @@ slot : Slot
 slot = record { onward = 5; action = 0; depth = 3; behind = 2; set = low 3 }
 
 -- They are recalled after three actions, and after fewer: there is more room then.
-recalled_here : recalled slot (low 3) 5 0 3 ≡ Recalled.Passed 2
+recalled_here : recalled slot (low 3) 5 0 3 ≡ Some 2
 unfolding slot recalled
 recalled_here = refl
 
-recalled_earlier : recalled slot (low 3) 5 0 1 ≡ Recalled.Passed 2
+recalled_earlier : recalled slot (low 3) 5 0 1 ≡ Some 2
 unfolding slot recalled
 recalled_earlier = refl
 
 -- After more actions there is less room; another set, node or action is another place; and an empty slot tells nothing.
-not_later : recalled slot (low 3) 5 0 4 ≡ Recalled.Nothing
+not_later : recalled slot (low 3) 5 0 4 ≡ None
 unfolding slot recalled
 not_later = refl
 
-not_another_set : recalled slot (low 2) 5 0 3 ≡ Recalled.Nothing
+not_another_set : recalled slot (low 2) 5 0 3 ≡ None
 unfolding slot recalled
 not_another_set = refl
 
-not_another_node : recalled slot (low 3) 6 0 3 ≡ Recalled.Nothing
+not_another_node : recalled slot (low 3) 6 0 3 ≡ None
 unfolding slot recalled
 not_another_node = refl
 
-not_another_action : recalled slot (low 3) 5 1 3 ≡ Recalled.Nothing
+not_another_action : recalled slot (low 3) 5 1 3 ≡ None
 unfolding slot recalled
 not_another_action = refl
 
-not_empty : recalled (slot_at [] 0) (low 0) 5 0 0 ≡ Recalled.Nothing
+not_empty : recalled (slot_at [] 0) (low 0) 5 0 0 ≡ None
 unfolding recalled slot_at
 not_empty = refl
 

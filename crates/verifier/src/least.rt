@@ -11,7 +11,6 @@ ghost use Rattle.verifier.specs.Least.{preimage as preimage_of, path_from, least
 
 use crate::limits::FEASIBLE_WORDS;
 use progression::step;
-use reader::ACTION_NODES;
 use routine::{HEAD_CELLS, SET_WORDS, head_at, set_at};
 use states::States;
 
@@ -21,10 +20,10 @@ fn meeting(sets: &[u64; SET_WORDS], first: usize, set: States) -> States
     ensures { result ≡ set_of (λ s. exists (λ t. member (set_at sets.now (first + s)) t && member set t) (below 256)) }
 {
     let mut all = States::empty();
-    for s in 0..256usize {
-        let row = set_at(sets, first + s);
+    for s in 0..=255u8 {
+        let row = set_at(sets, first + s as usize);
         if !row.intersect(set).is_empty() {
-            all = all.with((s % 256) as u8);
+            all = all.with(s);
         }
     }
     all
@@ -51,54 +50,24 @@ fn preimage(
     answered
 }
 
-// Feasible set k.
-fn feasible_at(feasible: &[u64; FEASIBLE_WORDS], k: usize) -> States
-    requires { k < most_acts + 1 }
-    ensures { result ≡ set_at feasible.now k }
-{
-    States::at(feasible, 4 * k)
-}
-
-// Writes feasible set k.
-fn put_feasible(feasible: &mut [u64; FEASIBLE_WORDS], k: usize, set: States)
-    requires { k < most_acts + 1 }
-    ensures { feasible.new ≡ write feasible.old (4 * k) (words set) }
-{
-    set.put(feasible, 4 * k);
-}
-
-// The action and the reply of a path's byte. (A byte that is read from an array has its bound here, as a parameter.)
-fn action_of(b: u8) -> usize
-    ensures { result ≡ b / 8 }
-{
-    (b / 8) as usize
-}
-
-fn reply_of(b: u8) -> usize
-    ensures { result ≡ b % 8 }
-{
-    (b % 8) as usize
-}
-
-// Writes the feasible sets of a path: for each of its places the states from which the rest can be gone.
+// Writes the feasible sets of a path of actions and replies, a byte each: for each of its places the states from which
+// the rest can be gone.
 fn fill_feasible(
     heads: &[u16; HEAD_CELLS],
     sets: &[u64; SET_WORDS],
-    path: &[u8; ACTION_NODES],
-    len: usize,
+    path: &[u8],
     feasible: &mut [u64; FEASIBLE_WORDS],
 )
-    requires { (len ≤ most_acts) × (length feasible.old ≡ 4 * (most_acts + 1)) }
-    ensures { FeasibleFrom heads.now sets.now path.now len 0 feasible.new }
+    requires { length path.now ≤ most_acts }
+    ensures { FeasibleFrom heads.now sets.now path.now (length path.now) 0 feasible.new }
 {
-    let mut k = len;
     let mut set = States::uniform(true);
-    put_feasible(feasible, k, set);
-    while 0 < k {
-        k = k - 1;
-        let b = path[k];
-        set = preimage(heads, sets, action_of(b), reply_of(b), set);
-        put_feasible(feasible, k, set);
+    set.put(feasible, States::WORDS * path.len());
+    let mut rest = path;
+    while let [before @ .., last] = rest {
+        set = preimage(heads, sets, (*last / 8) as usize, (*last % 8) as usize, set);
+        set.put(feasible, States::WORDS * before.len());
+        rest = before;
     }
 }
 
@@ -106,21 +75,24 @@ fn fill_feasible(
 fn least_along(
     heads: &[u16; HEAD_CELLS],
     sets: &[u64; SET_WORDS],
-    path: &[u8; ACTION_NODES],
-    len: usize,
+    path: &[u8],
     feasible: &[u64; FEASIBLE_WORDS],
     start: States,
     shown: &mut [u8],
 )
-    requires { (len ≤ most_acts) × (1 + 2 * len ≤ length shown.old) × FeasibleFrom heads.now sets.now path.now len 0 feasible.now }
-    ensures { shown.new ≡ written (trace (path_from path.now 0 len) (least_states heads.now sets.now start (path_from path.now 0 len))) shown.old }
+    requires { (length path.now ≤ most_acts) × (1 + 2 * length path.now ≤ length shown.old) × FeasibleFrom heads.now sets.now path.now (length path.now) 0 feasible.now }
+    ensures { shown.new ≡ written (trace (path_from path.now 0 (length path.now)) (least_states heads.now sets.now start (path_from path.now 0 (length path.now)))) shown.old }
 {
-    let mut s = start.intersect(feasible_at(feasible, 0)).least();
+    let mut s = start.intersect(States::at(feasible, 0)).least();
     shown[0] = s;
-    for k in 0..len {
+    // (By index: place k of the path stands for the feasible set k + 1 and for two bytes from 2k + 1 on.)
+    for k in 0..path.len() {
         let b = path[k];
-        let after = step(heads, sets, States::one(s), action_of(b), reply_of(b));
-        s = after.intersect(feasible_at(feasible, k + 1)).least();
+        let action = (b / 8) as usize;
+        let reply = (b % 8) as usize;
+        let after = step(heads, sets, States::one(s), action, reply);
+        let later = States::at(feasible, States::WORDS * (k + 1));
+        s = after.intersect(later).least();
         shown[2 * k + 1] = b;
         shown[2 * k + 2] = s;
     }
@@ -130,15 +102,14 @@ fn least_along(
 pub(crate) fn show(
     heads: &[u16; HEAD_CELLS],
     sets: &[u64; SET_WORDS],
-    path: &[u8; ACTION_NODES],
-    len: usize,
+    path: &[u8],
     start: States,
     shown: &mut [u8],
 )
-    requires { (len ≤ most_acts) × (1 + 2 * len ≤ length shown.old) }
-    ensures { shown.new ≡ written (trace (path_from path.now 0 len) (least_states heads.now sets.now start (path_from path.now 0 len))) shown.old }
+    requires { (length path.now ≤ most_acts) × (1 + 2 * length path.now ≤ length shown.old) }
+    ensures { shown.new ≡ written (trace (path_from path.now 0 (length path.now)) (least_states heads.now sets.now start (path_from path.now 0 (length path.now)))) shown.old }
 {
     let mut feasible = [0u64; FEASIBLE_WORDS];
-    fill_feasible(heads, sets, path, len, &mut feasible);
-    least_along(heads, sets, path, len, &feasible, start, shown);
+    fill_feasible(heads, sets, path, &mut feasible);
+    least_along(heads, sets, path, &feasible, start, shown);
 }

@@ -8,4 +8,4 @@ mod search;
 mod verdict;
 
 pub use limits::MEMO_WORDS;
-pub use verdict::{Verdict, number, verify, verify_in};
+pub use verdict::{Verdict, VerifyError, number, verify, verify_in};

@@ -19,13 +19,6 @@ pub(crate) struct Slot {
     pub(crate) set: States,
 }
 
-// So many histories, all of which passed; or nothing is remembered.
-#[derive(Clone, Copy)]
-pub(crate) enum Recalled {
-    Passed(u64),
-    Nothing,
-}
-
 // Numbers below this are half as long as a word: the product of two of them fits one.
 const HALF: u64 = 0x1_0000_0000;
 
@@ -63,7 +56,8 @@ fn slot_at(memo: &[u64; MEMO_WORDS], j: usize) -> Slot
 }
 
 // What slot j tells of a place: after `depth` actions, the states of a set being possible, an action comes whose
-// replies lead on to node `onward`. What was found with less room for actions holds with more.
+// replies lead on to node `onward`. It is the number of histories, all of which passed, or nothing. What was found with
+// less room for actions holds with more.
 pub(crate) fn recall(
     memo: &[u64; MEMO_WORDS],
     j: usize,
@@ -71,21 +65,17 @@ pub(crate) fn recall(
     onward: usize,
     action: usize,
     depth: usize,
-) -> Recalled
+) -> Option<u64>
     requires { j < slot_most }
     ensures { result ≡ recalled (slot_at memo.now j) set onward action depth }
 {
     let slot = slot_at(memo, j);
     let kept = slot.set;
     let same_node = (slot.onward == onward as u64) & (slot.action == action as u64);
-    let same_set = (kept.w0 == set.w0)
-        & (kept.w1 == set.w1)
-        & (kept.w2 == set.w2)
-        & (kept.w3 == set.w3);
-    if same_node & same_set & (depth as u64 <= slot.depth) {
-        return Recalled::Passed(slot.behind);
+    if same_node & kept.equals(set) & (depth as u64 <= slot.depth) {
+        return Some(slot.behind);
     }
-    Recalled::Nothing
+    None
 }
 
 // Writes slot j.

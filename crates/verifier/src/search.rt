@@ -5,14 +5,15 @@ ghost use Rattle.verifier.specs.Search.{path_byte, searched, searched_of, Search
 ghost use Rattle.verifier.specs.Memo.{reaching, Sound};
 
 use crate::limits::MEMO_WORDS;
-use crate::memo::{Recalled, Slot, recall, remember, slot_number};
+use crate::memo::{Slot, recall, remember, slot_number};
 use progression::{Place, settle, step};
 use reader::ACTION_NODES;
 use routine::{HEAD_CELLS, NODE_CELLS, SET_WORDS, head_at};
 use states::States;
 
 // All histories passed, with the count of those searched so far; one failed, with the count up to it and its length; or
-// the count exceeds the budget.
+// the count exceeds the budget. (Three outcomes, each told apart by who asks, so
+// neither an Option nor a Result.)
 #[derive(Clone, Copy)]
 pub(crate) enum Searched {
     Passed(u32),
@@ -56,7 +57,7 @@ pub(crate) fn search(
     count: u32,
     budget: u32,
 ) -> Searched
-    requires { (depth ≤ most_acts) × (count ≤ budget) × (length path.old ≡ most_acts) × Sound heads.now nodes.now sets.now budget memo.old }
+    requires { (depth ≤ most_acts) × (count ≤ budget) × Sound heads.now nodes.now sets.now budget memo.old }
     ensures { SearchedBy depth path.old path.new result (searched heads.now nodes.now sets.now budget (most_acts - depth) at set count) × Sound heads.now nodes.now sets.now budget memo.new }
 {
     match settle(nodes, sets, set, at) {
@@ -72,7 +73,7 @@ pub(crate) fn search(
             }
             let onward = node + 1;
             let j = slot_number(set, onward);
-            if let Recalled::Passed(behind) = recall(memo, j, set, onward, action, depth) {
+            if let Some(behind) = recall(memo, j, set, onward, action, depth) {
                 return count_passed(count, behind, budget);
             }
             let head = head_at(heads, action);

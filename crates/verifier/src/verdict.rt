@@ -3,7 +3,6 @@ ghost use Rattle.std.specs.Prelude.{◌≡◌};
 ghost use Rattle.format.specs.Format.{most_acts};
 ghost use Rattle.reader.specs.Answers.{number_for};
 ghost use Rattle.semantics.specs.Verdict.{LongEnough, admitted, verified};
-ghost use Rattle.routine.specs.Memory.{Sized};
 ghost use Rattle.routine.specs.Tables.{TablesAfter};
 ghost use Rattle.verifier.specs.Search.{searched};
 ghost use Rattle.verifier.specs.Answers.{answer_of, verified_by, empty_memo, cleared};
@@ -13,30 +12,43 @@ use crate::least::show;
 use crate::limits::MEMO_WORDS;
 use crate::search::{Searched, search};
 use reader::{ACTION_NODES, Refusal};
-use routine::{HEAD_CELLS, NODE_CELLS, Prepared, SET_WORDS, TRACE, prepare};
+use routine::{HEAD_CELLS, NODE_CELLS, SET_WORDS, TRACE, prepare};
 use states::States;
 
-// Valid with the count, invalid with the count and the history's length, stopped with the budget; or the trace memory is
-// too short, or the sheet is refused.
+// Valid with the count, invalid with the count and the history's length, or stopped with the budget.
 #[derive(Clone, Copy)]
 pub enum Verdict {
     Valid(u32),
     Invalid(u32, usize),
     Stopped(u32),
+}
+
+// Why there is no verdict: the trace memory is too short, or the sheet is refused.
+#[derive(Clone, Copy)]
+pub enum VerifyError {
     ShortMemory,
     Refused(Refusal),
 }
 
+impl From<Refusal> for VerifyError {
+    ghost use Rattle.std.specs.Prelude.{◌≡◌};
+    ghost use Rattle.verifier.specs.declared.verdict.VerifyError.TheVariants.{Refused as refused};
+
+    ghost from_gives = { λ refusal error. error ≡ refused refusal };
+
+    fn from(refusal: Refusal) -> VerifyError {
+        VerifyError::Refused(refusal)
+    }
+}
+
 // Document 01's number of a refusal; 0 for a verdict.
-pub fn number(answer: Verdict) -> u8
+pub fn number(answer: Result<Verdict, VerifyError>) -> u8
     ensures { result ≡ number_for (answer_of answer) }
 {
     match answer {
-        Verdict::Valid(c) => 0,
-        Verdict::Invalid(c, l) => 0,
-        Verdict::Stopped(b) => 0,
-        Verdict::ShortMemory => 30,
-        Verdict::Refused(r) => reader::number(r),
+        Ok(verdict) => 0,
+        Err(VerifyError::ShortMemory) => 30,
+        Err(VerifyError::Refused(refusal)) => u8::from(refusal),
     }
 }
 
@@ -62,7 +74,7 @@ fn decide(
         Searched::Passed(count) => Verdict::Valid(count),
         Searched::Over => Verdict::Stopped(budget),
         Searched::Failed(count, len) => {
-            show(heads, sets, &path, len, start, trace);
+            show(heads, sets, &path[..len], start, trace);
             Verdict::Invalid(count, len)
         }
     }
@@ -79,20 +91,20 @@ pub fn verify_in(
     nodes: &mut [u16; NODE_CELLS],
     sets: &mut [u64; SET_WORDS],
     memo: &mut [u64; MEMO_WORDS],
-) -> Verdict
-    ensures { (Sized heads.old nodes.old sets.old → verified_by result trace.new ≡ verified bytes.now budget trace.old) × (memo.new ≡ cleared (admitted bytes.now trace.old) memo.old) × TablesAfter (admitted bytes.now trace.old) heads.old nodes.old sets.old heads.new nodes.new sets.new }
+) -> Result<Verdict, VerifyError>
+    ensures { (verified_by result trace.new ≡ verified bytes.now budget trace.old) × (memo.new ≡ cleared (admitted bytes.now trace.old) memo.old) × TablesAfter (admitted bytes.now trace.old) heads.old nodes.old sets.old heads.new nodes.new sets.new }
 {
     if trace.len() < TRACE {
-        return Verdict::ShortMemory;
+        return Err(VerifyError::ShortMemory);
     }
     match prepare(bytes, heads, nodes, sets) {
-        Prepared::Refused(r) => Verdict::Refused(r),
-        Prepared::Ready(start) => decide(heads, nodes, sets, start, budget, trace, memo),
+        Ok(start) => Ok(decide(heads, nodes, sets, start, budget, trace, memo)),
+        Err(refusal) => Err(VerifyError::from(refusal)),
     }
 }
 
 // The same in tables of its own.
-pub fn verify(bytes: &[u8], budget: u32, trace: &mut [u8]) -> Verdict
+pub fn verify(bytes: &[u8], budget: u32, trace: &mut [u8]) -> Result<Verdict, VerifyError>
     ensures { verified_by result trace.new ≡ verified bytes.now budget trace.old }
 {
     let mut heads = [0u16; HEAD_CELLS];

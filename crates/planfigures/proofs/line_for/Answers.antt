@@ -1,13 +1,18 @@
--- `line_for` meets its contract: the line is the first bytes of its array, or there is none. Assumes nothing.
-use Prim.Native.Nat.{ℕ}
-use lib.ListN.{length-replicate}
+-- `line_for` meets its contract: what `print_figures` writes, or nothing. Assumes nothing.
+use mathlib.Core.Path.{ap, ◌∙◌}
+use lib.ListN.{length}
 use borrow.Author.Rules.{rules}
-use Rattle.semantics.specs.Printing.{most_lines}
-use Rattle.planfigures.proofs.InputLaws.{line_failed, line_put}
+use Rattle.lists.specs.Lists.{write}
+use Rattle.planfigures.proofs.InputLaws.{line_read, line_failed}
 use Rattle.planfigures.proofs.line_for.Goals as goal
 
-pub returns-in-Failed : goal.returns-in-Failed
-returns-in-Failed c = (line_failed _ c.in-Failed.is, search rules)
+pub returns-in-Ok : goal.returns-in-Ok
+returns-in-Ok c =
+    let p = c.print_figures.ensures in
+    let e = line_read _ _ _ _ c.in-Ok.is c.end-figures.ensures.0 c.numbers.ensures in
+    (p.0 ∙ ap length e, p.1 ∙ ap (write _ 0) e, p.2)
 
-pub returns : goal.returns
-returns c = line_put _ _ _ _ _ _ c.in_default.not-Failed c.end-figures.ensures.0 c.numbers.ensures c.print_figures-length.ensures (length-replicate {A = ℕ} most_lines 0)
+pub returns-in-Err : goal.returns-in-Err
+returns-in-Err c =
+    let e = line_failed _ _ _ c.in-Err.is in
+    (e.0, e.1, search rules)

@@ -1,17 +1,18 @@
 -- `recovery::checked_number` meets its contract: one equation for each answer. Assumes nothing.
 use mathlib.Core.Path.{sym, ap, ◌∙◌}
+use Rattle.std.specs.Prelude.{Ok}
 use Rattle.checker.specs.Answers.{answer_of}
 use Rattle.recovery.specs.Numbers.{checked_number}
 use Rattle.recovery.proofs.checked_number.Goals as goal
 
-pub returns-in-Yes : goal.returns-in-Yes
+pub returns-in-Ok-true : goal.returns-in-Ok-true
 unfolding answer_of checked_number
-returns-in-Yes c = sym (ap checked_number (ap answer_of c.in-Yes.is))
+returns-in-Ok-true c = sym (ap checked_number (ap answer_of (c.in-Ok-true.is ∙ ap Ok c.in-Ok-true.field-0-test)))
 
-pub returns-in-No : goal.returns-in-No
+pub returns-in-Ok-false : goal.returns-in-Ok-false
 unfolding answer_of checked_number
-returns-in-No c = sym (ap checked_number (ap answer_of c.in-No.is))
+returns-in-Ok-false c = sym (ap checked_number (ap answer_of (c.in-Ok-false.is ∙ ap Ok c.in-Ok-false.field-0-test)))
 
-pub returns-in-Refused : goal.returns-in-Refused
+pub returns-in-Err : goal.returns-in-Err
 unfolding answer_of checked_number
-returns-in-Refused c = c.number.ensures ∙ sym (ap checked_number (ap answer_of c.in-Refused.is))
+returns-in-Err c = c.from.ensures ∙ sym (ap checked_number (ap answer_of c.in-Err.is))

@@ -1,23 +1,22 @@
 -- `recovery::put_told` meets its contract, case by case. Assumes nothing.
 use mathlib.Core.Path.{refl, sym, ap, ◌∙◌}
+use Rattle.std.specs.Prelude.{Ok}
 use Rattle.runner.specs.Answers.{told_of}
 use Rattle.runner.specs.declared.answer.Told.{Told}
 use Rattle.recovery.specs.Numbers.{told_numbers}
-use Rattle.recovery.proofs.NumberLaws.{told_numbers_law, told_refused}
+use Rattle.recovery.proofs.NumberLaws.{told_cast, told_numbers_law, told_refused}
 use Rattle.recovery.proofs.put_told.Goals as goal
 
-pub returns-in-BadRecord : goal.returns-in-BadRecord
+pub returns-in-Ok-Act : goal.returns-in-Ok-Act
+unfolding told_of told_numbers
+returns-in-Ok-Act c = let w = c.in-Ok-Act in
+    told_numbers_law _ _ (sym (ap told_of w.is ∙ ap (λ (t : Told). told_of (Ok t)) (rw w.is at w.field-0-is))) _ _ refl
+
+pub returns-in-Ok-End : goal.returns-in-Ok-End
 unfolding told_of
-returns-in-BadRecord c = let t = told_refused _ _ (sym (ap told_of c.in-BadRecord.is)) _ in (c.number.ensures ∙ t.0, t.1)
+returns-in-Ok-End c = let w = c.in-Ok-End in
+    told_numbers_law _ _ (sym (ap told_of w.is ∙ ap (λ (t : Told). told_of (Ok t)) (rw w.is at w.field-0-is))) _ _ (told_cast w.holds)
 
-pub returns-in-Act : goal.returns-in-Act
-unfolding told_of told_numbers
-returns-in-Act c = told_numbers_law _ _ (sym (ap told_of c.in-Act.is)) _ _ refl
-
-pub returns-then-holds : goal.returns-then-holds
-unfolding told_of told_numbers
-returns-then-holds c = told_numbers_law _ _ (sym (ap told_of (c.in-End.is ∙ ap Told.End c.if-holds.true))) _ _ refl
-
-pub returns-else-holds : goal.returns-else-holds
-unfolding told_of told_numbers
-returns-else-holds c = told_numbers_law _ _ (sym (ap told_of (c.in-End.is ∙ ap Told.End c.if-holds.false))) _ _ refl
+pub returns-in-Err : goal.returns-in-Err
+unfolding told_of
+returns-in-Err c = let t = told_refused _ _ (sym (ap told_of c.in-Err.is)) _ in (c.from.ensures ∙ t.0, t.1)

@@ -4,4 +4,4 @@ use Rattle.recovery.proofs.recovery_verify_in.Goals as goal
 
 pub returns : goal.returns
 returns c = let k = c.verify_in-answer.ensures in
-    (λ z. verdict_numbers_law _ _ _ (k.0 z) _ _ _ c.put_verdict.ensures c.number.ensures, k.1, k.2)
+    let v = verdict_numbers_law _ _ _ k.0 _ _ _ c.put_verdict.ensures c.number.ensures in (v.0, v.1, v.2, k.1, k.2)

@@ -24,20 +24,11 @@ all_hold-loop-i-init t c = parts_to_law _ _ _ _ _ _ (omega arith)
 pub all_hold-returns-then-not-atom_holds : goal.all_hold-returns-then-not-atom_holds
 all_hold-returns-then-not-atom_holds t c = sym (c.loop-i.invariant ∙ atom_decides _ _ _ _ _ c.loop-i.i (omega arith) _ _ (sym c.in-Atom.is ∙ c.node_at.ensures.0) _ c.atom_holds.ensures (c.if-not-atom_holds.true))
 
-pub all_hold-overflow_add-i : goal.all_hold-overflow_add-i
-all_hold-overflow_add-i t c = omega (arith, c.ranges.end)
-
 pub all_hold-loop-i-preserved-in-Atom : goal.all_hold-loop-i-preserved-in-Atom
 all_hold-loop-i-preserved-in-Atom t c = c.loop-i.invariant ∙ atom_passes _ _ _ _ _ c.loop-i.i (omega arith) _ _ (sym c.in-Atom.is ∙ c.node_at.ensures.0) _ c.atom_holds.ensures (c.if-not-atom_holds.false)
 
-pub all_hold-overflow_add-i-in-Join : goal.all_hold-overflow_add-i-in-Join
-all_hold-overflow_add-i-in-Join t c = omega (arith, c.ranges.end)
-
 pub all_hold-overflow_add-i-then-not-all : goal.all_hold-overflow_add-i-then-not-all
 all_hold-overflow_add-i-then-not-all t c = omega (arith, join_inside _ _ _ _ (sym c.in-Join.is ∙ c.node_at.ensures.0), small _ _ _ c.in-Join.is c.node_at.ensures.1)
-
-pub all_hold-one_holds-requires : goal.all_hold-one_holds-requires
-all_hold-one_holds-requires t c = omega (arith, c.decreases)
 
 pub all_hold-returns-then-not-one_holds : goal.all_hold-returns-then-not-one_holds
 all_hold-returns-then-not-one_holds t c = sym (c.loop-i.invariant ∙ other_decides _ _ _ _ _ c.loop-i.i (omega arith) _ _ _ (sym c.in-Join.is ∙ c.node_at.ensures.0) (c.if-not-all.true) c.lesser-stop.ensures _ c.one_holds.ensures (c.if-not-one_holds.true))
@@ -66,20 +57,11 @@ one_holds-loop-i-init t c = parts_to_law _ _ _ _ _ _ (omega arith)
 pub one_holds-returns-then-atom_holds : goal.one_holds-returns-then-atom_holds
 one_holds-returns-then-atom_holds t c = sym (c.loop-i.invariant ∙ atom_decides _ _ _ _ _ c.loop-i.i (omega arith) _ _ (sym c.in-Atom.is ∙ c.node_at.ensures.0) _ c.atom_holds.ensures c.if-atom_holds.true)
 
-pub one_holds-overflow_add-i : goal.one_holds-overflow_add-i
-one_holds-overflow_add-i t c = omega (arith, c.ranges.end)
-
 pub one_holds-loop-i-preserved-in-Atom : goal.one_holds-loop-i-preserved-in-Atom
 one_holds-loop-i-preserved-in-Atom t c = c.loop-i.invariant ∙ atom_passes _ _ _ _ _ c.loop-i.i (omega arith) _ _ (sym c.in-Atom.is ∙ c.node_at.ensures.0) _ c.atom_holds.ensures c.if-atom_holds.false
 
-pub one_holds-overflow_add-i-in-Join : goal.one_holds-overflow_add-i-in-Join
-one_holds-overflow_add-i-in-Join t c = omega (arith, c.ranges.end)
-
 pub one_holds-overflow_add-i-then-all : goal.one_holds-overflow_add-i-then-all
 one_holds-overflow_add-i-then-all t c = omega (arith, join_inside _ _ _ _ (sym c.in-Join.is ∙ c.node_at.ensures.0), small _ _ _ c.in-Join.is c.node_at.ensures.1)
-
-pub one_holds-all_hold-requires : goal.one_holds-all_hold-requires
-one_holds-all_hold-requires t c = omega (arith, c.decreases)
 
 pub one_holds-returns-then-all_hold : goal.one_holds-returns-then-all_hold
 one_holds-returns-then-all_hold t c = sym (c.loop-i.invariant ∙ other_decides _ _ _ _ _ c.loop-i.i (omega arith) _ _ _ (sym c.in-Join.is ∙ c.node_at.ensures.0) c.if-all.true c.lesser-stop.ensures _ c.all_hold.ensures c.if-all_hold.true)

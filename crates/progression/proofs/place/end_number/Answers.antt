@@ -1,4 +1,4 @@
--- `place::end_number` meets its contract. The loop's invariant: what the nodes that are left say is what all say. The measure is their number. Assumes nothing.
+-- `place::end_number` meets its contract: the first end tells, and a node that is none leaves it to those behind. Assumes nothing.
 use mathlib.Core.Path.{refl, sym, ◌∙◌}
 use native.Mathlib.Omega.{arith}
 use Rattle.progression.specs.Machine.{end_number}
@@ -8,15 +8,15 @@ use Rattle.progression.proofs.place.end_number.Goals as goal
 
 pub loop-i-init : goal.loop-i-init
 unfolding end_number
-loop-i-init c = (omega arith, refl)
+loop-i-init c = refl
 
 pub returns-in-End : goal.returns-in-End
 returns-in-End c = let l = c in
-    sym (l.loop-i.invariant.1 ∙ end_here _ _ _ (omega arith) _ c.node_at.ensures.0 _ c.in-End.is)
+    sym (l.loop-i.invariant ∙ end_here _ _ _ (omega arith) _ c.node_at.ensures.0 _ c.in-End.is)
 
 pub loop-i-preserved : goal.loop-i-preserved
 loop-i-preserved c = let l = c in
-    (omega arith, l.loop-i.invariant.1 ∙ end_later _ _ _ (omega arith) _ c.node_at.ensures.0 (opened c.in_default.in_default-own.keys2))
+    l.loop-i.invariant ∙ end_later _ _ _ (omega arith) _ c.node_at.ensures.0 (opened c.in_default.in_default-own.keys2)
 
 pub returns : goal.returns
-returns c = let l = c in sym (l.loop-i.invariant.1 ∙ end_none _ _ _ (omega arith))
+returns c = let l = c in sym (l.loop-i.invariant ∙ end_none _ _ _ (omega arith))

@@ -1,6 +1,4 @@
 -- `progression::pass_over` meets its contract: word by word. Assumes nothing.
-use native.Mathlib.Omega.{arith}
-use lib.Count.{ones-le}
 use borrow.Author.Rules.{rules}
 use Rattle.states.proofs.SetLaws.{Fitting}
 use Rattle.progression.proofs.PassLaws.{words_kept, all_evaluated, passed_is}
@@ -14,15 +12,3 @@ returns c = let h : Fitting c.args.set = search rules in
     let r = c.pass_word-3.ensures in
     let s = c.pass_word-4.ensures in
     passed_is _ _ _ _ _ (words_kept _ _ h g _ _ _ _ p.0 q.0 r.0 s.0) c.is_empty.ensures (all_evaluated _ h _ _ _ _ p.1 q.1 r.1 s.1)
-
-pub pass_word-requires-2 : goal.pass_word-requires-2
-pass_word-requires-2 c = let h : Fitting c.args.set = search rules in
-    omega (arith, c.pass_word.ensures.1, ones-le 64 _ h.0)
-
-pub pass_word-requires-3 : goal.pass_word-requires-3
-pass_word-requires-3 c = let h : Fitting c.args.set = search rules in
-    omega (arith, c.pass_word.ensures.1, c.pass_word-2.ensures.1, ones-le 64 _ h.0, ones-le 64 _ h.1)
-
-pub pass_word-requires-4 : goal.pass_word-requires-4
-pass_word-requires-4 c = let h : Fitting c.args.set = search rules in
-    omega (arith, c.pass_word.ensures.1, c.pass_word-2.ensures.1, c.pass_word-3.ensures.1, ones-le 64 _ h.0, ones-le 64 _ h.1, ones-le 64 _ h.2)

@@ -1,7 +1,6 @@
 -- `progression::pass_word` meets its contract: state by state, the lowest first. Assumes nothing.
 use mathlib.Core.Path.{◌≡◌}
 use native.Mathlib.Omega.{arith}
-use Rattle.states.proofs.BitLaws.{cleared_less}
 use Rattle.progression.proofs.PassLaws.{none_evaluated, all_kept, all_counted, lowest_fits, few_before, lowest_kept, lowest_dropped}
 use Rattle.progression.proofs.reply.pass_word.Goals as goal
 use Rattle.progression.proofs.reply.pass_word.Goals.{then-holds, else-holds}
@@ -27,12 +26,3 @@ pub evaluate-holds-requires : goal.evaluate-holds-requires
 evaluate-holds-requires c = let inv = c.loop-left.invariant in
     let some = c.loop-left-test.true in
     (lowest_fits _ _ _ _ _ _ inv some, few_before _ _ _ _ _ _ inv some c.ranges.states.fits c.requires)
-
-pub overflow_cast-kept : goal.overflow_cast-kept
-overflow_cast-kept c = record { fits = omega (arith, lowest_fits _ _ _ _ _ _ c.loop-left.invariant c.loop-left-test.true) }
-
-pub overflow_shl-kept : goal.overflow_shl-kept
-overflow_shl-kept c = lowest_fits _ _ _ _ _ _ c.loop-left.invariant c.loop-left-test.true
-
-pub loop-left-smaller : goal.loop-left-smaller
-loop-left-smaller c = cleared_less c.loop-left.left c.loop-left-test.true

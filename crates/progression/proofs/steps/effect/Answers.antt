@@ -3,9 +3,6 @@ use mathlib.Core.Path.{◌∙◌}
 use Rattle.progression.proofs.GatherLaws.{read_rows, read_same}
 use Rattle.progression.proofs.steps.effect.Goals as goal
 
-pub gather-requires : goal.gather-requires
-gather-requires c = c.head_at-head.ensures.1
-
 pub returns-then-head : goal.returns-then-head
 returns-then-head c = c.gather.ensures ∙ read_rows _ _ _ c.head_at-head.ensures.0 _ c.if-head.true
 

@@ -3,7 +3,7 @@ use mathlib.Core.Path.{sym, subst, ◌∙◌}
 use mathlib.Core.Bool.{false, ◌||◌}
 use native.Mathlib.Omega.{arith}
 use Rattle.states.specs.Sets.{member}
-use Rattle.states.proofs.BitLaws.{lowest_set, cleared_less}
+use Rattle.states.proofs.BitLaws.{cleared_less}
 use Rattle.states.proofs.SetLaws.{Fitting, fitting_set_of}
 use Rattle.progression.proofs.GatherLaws.{gather_start, gather_more, gather_end}
 use Rattle.progression.proofs.steps.gather_word.Goals as goal
@@ -11,17 +11,6 @@ use Rattle.progression.proofs.steps.gather_word.Goals as goal
 pub loop-left-init : goal.loop-left-init
 loop-left-init c = let e = c.empty-all.ensures in
     (c.ranges.word.fits, subst Fitting (sym e) (fitting_set_of (λ s. false)), gather_start _ _ _ e _)
-
-pub overflow_cast-b : goal.overflow_cast-b
-overflow_cast-b c = let l = c.loop-left in
-    omega (arith, (lowest_set 64 l.left c.loop-left-test.true l.invariant.0).0)
-
-pub overflow_add-first : goal.overflow_add-first
-overflow_add-first c = let l = c.loop-left in
-    omega (arith, (lowest_set 64 l.left c.loop-left-test.true l.invariant.0).0)
-
-pub loop-left-smaller : goal.loop-left-smaller
-loop-left-smaller c = cleared_less c.loop-left.left c.loop-left-test.true
 
 pub loop-left-preserved : goal.loop-left-preserved
 loop-left-preserved c = let l = c.loop-left in

@@ -7,8 +7,5 @@ use Rattle.progression.proofs.steps.reply_states.Goals as goal
 pub returns-then-head-reply : goal.returns-then-head-reply
 returns-then-head-reply c = c.empty.ensures ∙ read_nowhere _ _ _ c.head_at-head.ensures.0 _ c.if-head-reply.true
 
-pub overflow_add-head : goal.overflow_add-head
-overflow_add-head c = let h = c.head_at-head.ensures in omega (arith, h.2, h.3)
-
 pub returns : goal.returns
 returns c = c.set_at.ensures ∙ read_table _ _ _ c.head_at-head.ensures.0 _ (omega arith)

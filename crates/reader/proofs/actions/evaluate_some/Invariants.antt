@@ -8,7 +8,7 @@ use Rattle.reader.specs.Method.{some_holds}
 use Rattle.reader.proofs.actions.evaluate_some.Given as goal
 
 abbrev pub invariant-loop-i : goal.invariant-loop-i
-invariant-loop-i l = (l.i ≤ l.m) × (l.set ≡ set_of (member l.set)) × (mapped (joined_to l.set) (objectives l.n (l.m - l.i) l.bytes l.p) ≡ mapped some_holds (objectives l.n l.m l.bytes l.at))
+invariant-loop-i l = (l.i ≤ l.m) × (l.set ≡ set_of (member l.set)) × (mapped (joined_to l.set) (objectives l.n (l.m - l.i) l.packed l.p) ≡ mapped some_holds (objectives l.n l.m l.packed l.at))
 
 abbrev pub decreases-loop-i : goal.decreases-loop-i
 decreases-loop-i l = l.m - l.i

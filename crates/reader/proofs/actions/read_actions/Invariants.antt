@@ -6,7 +6,7 @@ use Rattle.reader.specs.Method.{ending}
 use Rattle.reader.proofs.actions.read_actions.Given as goal
 
 abbrev pub invariant-loop-i : goal.invariant-loop-i
-invariant-loop-i l = (l.i ≤ l.k) × (mapped ending (action_list l.n (l.k - l.i) l.bytes l.p) ≡ mapped ending (action_list l.n l.k l.bytes l.at))
+invariant-loop-i l = (l.i ≤ l.k) × (mapped ending (action_list l.n (l.k - l.i) l.packed l.p) ≡ mapped ending (action_list l.n l.k l.packed l.at))
 
 abbrev pub decreases-loop-i : goal.decreases-loop-i
 decreases-loop-i l = l.k - l.i

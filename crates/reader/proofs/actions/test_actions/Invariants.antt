@@ -9,7 +9,7 @@ use Rattle.reader.proofs.TestLaws.{Left}
 use Rattle.reader.proofs.actions.test_actions.Given as goal
 
 abbrev pub invariant-loop-i : goal.invariant-loop-i
-invariant-loop-i l = (l.i ≤ l.k) × ((actions : List Action) (end : ℕ) → action_list l.n l.k l.bytes l.at ≡ got actions end → Left (members l.space) l.n l.bytes actions end l.p (l.k - l.i))
+invariant-loop-i l = (l.i ≤ l.k) × ((actions : List Action) (end : ℕ) → action_list l.n l.k l.packed l.at ≡ got actions end → Left (members l.space) l.n l.packed actions end l.p (l.k - l.i))
 
 abbrev pub decreases-loop-i : goal.decreases-loop-i
 decreases-loop-i l = l.k - l.i

@@ -25,4 +25,4 @@ returns-in-States c = c.holding_fact.ensures ∙ sym (rw c.in-States.is (either_
 
 pub returns-else-fresh : goal.returns-else-fresh
 unfolding states_in fact_of truth fact_in
-returns-else-fresh c = c.uniform.ensures ∙ rw c.wide.ensures (sym (rw (c.in-Next.is, c.if-fresh.false)))
+returns-else-fresh c = c.uniform.ensures ∙ sym (rw (c.in-Next.is, c.if-fresh.false))

@@ -1,14 +1,14 @@
--- `reader::nodes::action_kind` meets its contract: a sheet by its length. Assumes nothing.
-use mathlib.Core.Path.{refl, ◌∙◌}
-use native.Mathlib.Omega.{arith}
-use Rattle.format.specs.Format.{kind}
-use Rattle.format.proofs.ReaderLaws.{sheet_short, sheet_long}
-use Rattle.reader.specs.Answers.{number_of, kind_read}
+-- `reader::action_kind` meets its contract: a sheet by its length. Assumes nothing.
+use mathlib.Core.Path.{◌∙◌}
+use Rattle.format.specs.Format.{mapped, kind}
+use Rattle.reader.specs.Answers.{answer_of, found}
+use Rattle.reader.proofs.PackedLaws.{packed_given, packed_refused}
 use Rattle.reader.proofs.nodes.action_kind.Goals as goal
 
-pub returns-then-bytes-gt-BYTES : goal.returns-then-bytes-gt-BYTES
-unfolding kind_read number_of
-returns-then-bytes-gt-BYTES c = sheet_long kind _ _ c.if-bytes-gt-BYTES.true
+pub returns-in-Err : goal.returns-in-Err
+unfolding answer_of found mapped
+returns-in-Err c = packed_refused kind _ _ c.in-Err.ensures
 
 pub returns : goal.returns
-returns c = c.kind_at.ensures ∙ sheet_short kind _ _ (omega arith) refl
+unfolding answer_of
+returns c = c.kind.ensures ∙ packed_given kind _ _ c.in-Ok.ensures

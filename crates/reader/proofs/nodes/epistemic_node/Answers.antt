@@ -1,14 +1,14 @@
--- `reader::nodes::epistemic_node` meets its contract: a sheet by its length. Assumes nothing.
-use mathlib.Core.Path.{refl, ◌∙◌}
-use native.Mathlib.Omega.{arith}
-use Rattle.format.specs.Format.{epistemic_node}
-use Rattle.format.proofs.ReaderLaws.{sheet_short, sheet_long}
-use Rattle.reader.specs.Answers.{number_of, epistemic_node_read}
+-- `reader::epistemic_node` meets its contract: a sheet by its length. Assumes nothing.
+use mathlib.Core.Path.{◌∙◌}
+use Rattle.format.specs.Format.{mapped, epistemic_node}
+use Rattle.reader.specs.Answers.{answer_of, found}
+use Rattle.reader.proofs.PackedLaws.{packed_given, packed_refused}
 use Rattle.reader.proofs.nodes.epistemic_node.Goals as goal
 
-pub returns-then-bytes-gt-BYTES : goal.returns-then-bytes-gt-BYTES
-unfolding epistemic_node_read number_of
-returns-then-bytes-gt-BYTES c = sheet_long epistemic_node _ _ c.if-bytes-gt-BYTES.true
+pub returns-in-Err : goal.returns-in-Err
+unfolding answer_of found mapped
+returns-in-Err c = packed_refused epistemic_node _ _ c.in-Err.ensures
 
 pub returns : goal.returns
-returns c = c.epistemic_at.ensures ∙ sheet_short epistemic_node _ _ (omega arith) refl
+unfolding answer_of
+returns c = c.epistemic_node.ensures ∙ packed_given epistemic_node _ _ c.in-Ok.ensures

@@ -5,8 +5,10 @@ use borrow.Author.Tests.{not-true, not-false}
 use Rattle.states.specs.declared.States.{States}
 use Rattle.states.specs.Sets.{member, set_of}
 use Rattle.reader.specs.Answers.{number_of, answer_of, without_value}
-use Rattle.reader.specs.Method.{passed_to, header_of}
-use Rattle.reader.specs.declared.formula.Walked.{Walked}
+use Rattle.reader.specs.Method.{header_of}
+use Rattle.std.specs.Prelude.{Result}
+use Prim.Native.Nat.{ℕ}
+use Rattle.reader.specs.declared.refusal.Refusal.{Refusal}
 use Rattle.reader.proofs.BodyLaws.{unpadded, stateless, startless, actions_tested}
 use Rattle.reader.proofs.sheet.test_body.Goals as goal
 
@@ -18,14 +20,14 @@ pub returns-then-not-is_padding : goal.returns-then-not-is_padding
 unfolding answer_of number_of header_of
 returns-then-not-is_padding c = λ constraint sheet s e u.
     let b = c in
-    sym (unpadded (header_of b.args.h constraint) b.requires.1 b.args.bytes.now b.args.h.at sheet _ e (sym c.is_padding.ensures ∙ c.if-not-is_padding.true))
+    sym (unpadded (header_of b.args.h constraint) b.requires b.args.packed.now b.args.h.at sheet _ e (sym c.is_padding.ensures ∙ c.if-not-is_padding.true))
 
 pub returns-then-is_empty : goal.returns-then-is_empty
 unfolding answer_of number_of header_of
 returns-then-is_empty c = λ constraint sheet s e u.
     let b = c in
     let padded = sym c.is_padding.ensures ∙ c.if-not-is_padding.false in
-    sym (stateless (header_of b.args.h constraint) b.requires.1 b.args.bytes.now b.args.h.at sheet _ e padded s (not-true _ (sym c.is_empty.ensures ∙ c.if-is_empty.true)))
+    sym (stateless (header_of b.args.h constraint) b.requires b.args.packed.now b.args.h.at sheet _ e padded s (not-true _ (sym c.is_empty.ensures ∙ c.if-is_empty.true)))
 
 pub returns-then-is_empty-2 : goal.returns-then-is_empty-2
 unfolding answer_of number_of header_of
@@ -33,24 +35,24 @@ returns-then-is_empty-2 c = λ constraint sheet s e u.
     let b = c in
     let padded = sym c.is_padding.ensures ∙ c.if-not-is_padding.false in
     let some = not-false _ (sym c.is_empty.ensures ∙ c.if-is_empty.false) in
-    sym (startless (header_of b.args.h constraint) b.requires.1 b.args.bytes.now b.args.h.at sheet _ e padded s some (common_is _ _ c.intersect.ensures u) (not-true _ (sym c.is_empty-2.ensures ∙ c.if-is_empty-2.true)))
+    sym (startless (header_of b.args.h constraint) b.requires b.args.packed.now b.args.h.at sheet _ e padded s some (common_is _ _ c.intersect.ensures u) (not-true _ (sym c.is_empty-2.ensures ∙ c.if-is_empty-2.true)))
 
-pub returns-in-Refused : goal.returns-in-Refused
-unfolding answer_of without_value passed_to header_of
-returns-in-Refused c = λ constraint sheet s e u.
+pub returns-in-Err : goal.returns-in-Err
+unfolding answer_of without_value header_of
+returns-in-Err c = λ constraint sheet s e u.
     let a = c.args in
     let padded = sym c.is_padding.ensures ∙ c.if-not-is_padding.false in
     let some = not-false _ (sym c.is_empty.ensures ∙ c.if-is_empty.false) in
     let starts = not-false _ (sym c.is_empty-2.ensures ∙ c.if-is_empty-2.false) in
-    ap (λ (x : Walked). without_value (passed_to x)) (sym c.in-Refused.is)
-    ∙ actions_tested (header_of a.h constraint) c.requires.1 a.bytes.now a.h.at sheet _ e padded s some (common_is _ _ c.intersect.ensures u) starts c.test_actions.result c.test_actions.ensures
+    ap (λ (x : Result ℕ Refusal). without_value (answer_of x)) (sym c.in-Err.is)
+    ∙ actions_tested (header_of a.h constraint) c.requires a.packed.now a.h.at sheet _ e padded s some (common_is _ _ c.intersect.ensures u) starts c.test_actions.result c.test_actions.ensures
 
-pub returns-in-To : goal.returns-in-To
-unfolding answer_of without_value passed_to header_of
-returns-in-To c = λ constraint sheet s e u.
+pub returns : goal.returns
+unfolding answer_of without_value header_of
+returns c = λ constraint sheet s e u.
     let a = c.args in
     let padded = sym c.is_padding.ensures ∙ c.if-not-is_padding.false in
     let some = not-false _ (sym c.is_empty.ensures ∙ c.if-is_empty.false) in
     let starts = not-false _ (sym c.is_empty-2.ensures ∙ c.if-is_empty-2.false) in
-    ap (λ (x : Walked). without_value (passed_to x)) (sym c.in-To.is)
-    ∙ actions_tested (header_of a.h constraint) c.requires.1 a.bytes.now a.h.at sheet _ e padded s some (common_is _ _ c.intersect.ensures u) starts c.test_actions.result c.test_actions.ensures
+    ap (λ (x : Result ℕ Refusal). without_value (answer_of x)) (sym c.in-Ok.is)
+    ∙ actions_tested (header_of a.h constraint) c.requires a.packed.now a.h.at sheet _ e padded s some (common_is _ _ c.intersect.ensures u) starts c.test_actions.result c.test_actions.ensures

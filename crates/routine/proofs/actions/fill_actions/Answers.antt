@@ -1,15 +1,12 @@
 -- `routine::actions::fill_actions` meets its contract. The loop's invariant: the actions from `a` on stand at `p`, and if their sets and their heads are written where they are left to be, all are. The measure is the actions that are left. Assumes nothing.
 use native.Mathlib.Omega.{arith}
-use Rattle.routine.proofs.ActionLaws.{actions_first, actions_here, actions_last}
+use Rattle.routine.proofs.ActionLaws.{actions_here, actions_last}
 use Rattle.routine.proofs.actions.fill_actions.Goals as goal
 
-pub loop-a-init : goal.loop-a-init
-loop-a-init c = (omega arith, λ actions q h l. actions_first _ _ _ _ _ _ q actions h l)
-
 pub fill_action-laid-requires : goal.fill_action-laid-requires
-fill_action-laid-requires c = let w = c.requires.1 in
+fill_action-laid-requires c = let w = c.requires in
     let x = actions_here _ _ _ _ _ _ w.next w.actions _ _ _ _ _ c.loop-a-test.true (c.loop-a.invariant.1 w.actions w.next w.stand w.all) in
-    (c.requires.0, omega (arith, w.few, c.loop-a-test.true), record { action = x.action; next = x.end; stands = x.stands; room = omega (arith, x.room, w.room) })
+    (omega (arith, w.few, c.loop-a-test.true), record { action = x.action; next = x.end; stands = x.stands; room = omega (arith, x.room, w.room) })
 
 pub loop-a-preserved : goal.loop-a-preserved
 loop-a-preserved c = (

@@ -10,7 +10,7 @@ use Rattle.routine.proofs.actions.fill_actions.Given as goal
 
 abbrev pub invariant-loop-a : goal.invariant-loop-a
 invariant-loop-a l = (l.a ≤ l.count)
-    × ((actions : List Action) (q : ℕ) → ActionsAt l.bytes l.n actions l.at q → length actions ≡ l.count → ActionsLeft l.bytes l.n l.space l.count l.initial.heads l.heads l.initial.sets l.sets l.p q l.k l.a actions)
+    × ((actions : List Action) (q : ℕ) → ActionsAt l.packed l.n actions l.at q → length actions ≡ l.count → ActionsLeft l.packed l.n l.space l.count l.initial.heads l.heads l.initial.sets l.sets l.p q l.k l.a actions)
 
 abbrev pub decreases-loop-a : goal.decreases-loop-a
 decreases-loop-a l = l.count - l.a

@@ -9,7 +9,7 @@ use Rattle.routine.proofs.ActionLaws.{RepliesLeft}
 use Rattle.routine.proofs.actions.fill_replies.Given as goal
 
 abbrev pub invariant-loop-i : goal.invariant-loop-i
-invariant-loop-i l = (l.i ≤ l.m) × ((fs : List Objective) (q : ℕ) → RepliesAt l.bytes l.n fs l.at q → length fs ≡ l.m → RepliesLeft l.bytes l.n l.m l.k l.initial.sets l.sets l.p q l.i fs)
+invariant-loop-i l = (l.i ≤ l.m) × ((fs : List Objective) (q : ℕ) → RepliesAt l.packed l.n fs l.at q → length fs ≡ l.m → RepliesLeft l.packed l.n l.m l.k l.initial.sets l.sets l.p q l.i fs)
 
 abbrev pub decreases-loop-i : goal.decreases-loop-i
 decreases-loop-i l = l.m - l.i

@@ -1,6 +1,8 @@
 -- `routine::memory::node_at` meets its contract: each return by the law of its case (proofs/MemoryLaws.antt), and its numbers fit 16 bits, as what is read does. Assumes nothing.
 use mathlib.Core.Path.{sym, subst, ◌∙◌}
-use native.Mathlib.Omega.{arith}
+use Rattle.std.proofs.Common.{refl, arith, rules}
+use lib.ListN.{get_or}
+use Prim.Native.Nat.{◌*◌}
 use Rattle.routine.specs.declared.memory.Node.{Node}
 use Rattle.routine.specs.Memory.{Small, node_most, node_of, node_at}
 use Rattle.routine.proofs.MemoryLaws.{three_in, past, node_small}
@@ -13,6 +15,6 @@ returns-then-i-ge-NODES c = (past node_most _ _ _ c.if-i-ge-NODES.true, omega ar
 pub returns : goal.returns
 unfolding node_at
 returns c = let n = c.node_of.ensures in (
-  n ∙ three_in node_of (Node.End 0) c.args.nodes.now node_most c.args.i _ _ _ (omega arith) c.wide-kind.ensures.0 c.wide-operand.ensures.0 c.wide-second.ensures.0,
-  subst Small (sym n) (node_small c.wide-kind.result _ _ c.wide-operand.ensures.1 c.wide-second.ensures.1),
+  n ∙ three_in node_of (Node.End 0) c.args.nodes.now node_most c.args.i _ _ _ (omega arith) refl refl refl,
+  subst Small (sym n) (node_small (get_or c.args.nodes.now (3 * c.args.i) 0) _ _ (search rules) (search rules)),
 )

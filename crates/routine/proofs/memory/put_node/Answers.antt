@@ -1,11 +1,13 @@
 -- `routine::memory::put_node` meets its contract: the numbers that `put_cells` writes are those of the node. Assumes nothing.
-use Prim.Native.Nat.{ℕ}
+use Prim.Native.Nat.{ℕ, ◌<◌}
 use mathlib.Core.List.{List, [], ◌∷◌}
-use mathlib.Core.Path.{◌≡◌, subst}
+use mathlib.Core.Path.{◌≡◌, refl, subst}
+use mathlib.Core.Bool.{Bool, true, false}
+use mir.Val.{bool_byte}
 use native.Mathlib.Omega.{arith}
 use Rattle.routine.specs.declared.memory.Node.{Node}
 use Rattle.lists.specs.Lists.{write}
-use Rattle.routine.specs.Memory.{cells, Small}
+use Rattle.routine.specs.Memory.{flag, cells, Small}
 use Rattle.routine.proofs.memory.put_node.Goals as goal
 
 -- A node is written as what it is equal to.
@@ -14,6 +16,16 @@ cells_same before after at node same e h = rw e h
 
 third_same : (before after : List ℕ) (at kind operand second same : ℕ) → second ≡ same → after ≡ write before at (kind ∷ operand ∷ second ∷ []) → after ≡ write before at (kind ∷ operand ∷ same ∷ [])
 third_same before after at kind operand second same e h = rw (← e) h
+
+-- A truth value as a number, and that it fits.
+flag_is : (x : Bool) → bool_byte x ≡ flag x
+unfolding flag
+flag_is true = refl
+flag_is false = refl
+
+flag_fits : (x : Bool) → bool_byte x < 65536
+flag_fits true = omega arith
+flag_fits false = omega arith
 
 pub put_cells-requires : goal.put_cells-requires
 unfolding Small
@@ -29,11 +41,11 @@ put_cells-requires-in-Jump c = (c.requires.0, subst Small c.in-Jump.is c.require
 
 pub put_cells-requires-in-Join : goal.put_cells-requires-in-Join
 unfolding Small
-put_cells-requires-in-Join c = (c.requires.0, subst Small c.in-Join.is c.requires.1, c.flag.ensures.1)
+put_cells-requires-in-Join c = (c.requires.0, subst Small c.in-Join.is c.requires.1, flag_fits c.in-Join.all)
 
 pub put_cells-requires-in-Atom : goal.put_cells-requires-in-Atom
 unfolding Small
-put_cells-requires-in-Atom c = (c.requires.0, subst Small c.in-Atom.is c.requires.1, c.flag-in-Atom.ensures.1)
+put_cells-requires-in-Atom c = (c.requires.0, subst Small c.in-Atom.is c.requires.1, flag_fits c.in-Atom.positive)
 
 pub put_cells-requires-in-End : goal.put_cells-requires-in-End
 unfolding Small
@@ -53,11 +65,11 @@ returns-in-Jump c = cells_same _ _ _ _ _ c.in-Jump.is c.put_cells-in-Jump.ensure
 
 pub returns-in-Join : goal.returns-in-Join
 unfolding cells
-returns-in-Join c = cells_same _ _ _ _ _ c.in-Join.is (third_same _ _ _ _ _ _ _ c.flag.ensures.0 c.put_cells-in-Join.ensures)
+returns-in-Join c = cells_same _ _ _ _ _ c.in-Join.is (third_same _ _ _ _ _ _ _ (flag_is c.in-Join.all) c.put_cells-in-Join.ensures)
 
 pub returns-in-Atom : goal.returns-in-Atom
 unfolding cells
-returns-in-Atom c = cells_same _ _ _ _ _ c.in-Atom.is (third_same _ _ _ _ _ _ _ c.flag-in-Atom.ensures.0 c.put_cells-in-Atom.ensures)
+returns-in-Atom c = cells_same _ _ _ _ _ c.in-Atom.is (third_same _ _ _ _ _ _ _ (flag_is c.in-Atom.positive) c.put_cells-in-Atom.ensures)
 
 pub returns-in-End : goal.returns-in-End
 unfolding cells

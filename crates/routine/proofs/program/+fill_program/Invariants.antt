@@ -4,4 +4,4 @@ use lib.ListN.{length}
 use Rattle.routine.proofs.program.+fill_program.Given as goal
 
 abbrev pub decreases-fill_program : goal.decreases-fill_program
-decreases-fill_program l = 8 * length l.bytes.now - l.from.at
+decreases-fill_program l = 8 * length l.packed.now - l.from.at

@@ -3,14 +3,10 @@ use mathlib.Core.Path.{sym, ap}
 use Rattle.runner.specs.Walks.{accepted_at}
 use Rattle.runner.proofs.walk.acceptance.Goals as goal
 
-pub returns-in-At : goal.returns-in-At
+pub returns-in-Ok : goal.returns-in-Ok
 unfolding accepted_at
-returns-in-At c = sym (ap accepted_at c.in-At.is)
+returns-in-Ok c = sym (ap accepted_at c.in-Ok.is)
 
-pub returns-in-Nowhere : goal.returns-in-Nowhere
+pub returns-in-Err : goal.returns-in-Err
 unfolding accepted_at
-returns-in-Nowhere c = sym (ap accepted_at c.in-Nowhere.is)
-
-pub returns-in-Refused : goal.returns-in-Refused
-unfolding accepted_at
-returns-in-Refused c = sym (ap accepted_at c.in-Refused.is)
+returns-in-Err c = sym (ap accepted_at c.in-Err.is)

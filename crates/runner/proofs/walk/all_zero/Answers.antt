@@ -1,17 +1,14 @@
--- `runner::all_zero` meets its contract. The loop's invariant: every byte is 0 if every byte that is left is. The measure is the number of bytes that are left. Assumes nothing.
-use mathlib.Core.Path.{refl, sym, ◌∙◌}
+-- `runner::all_zero` meets its contract. Assumes nothing.
+use mathlib.Core.Path.{sym, ◌∙◌}
 use native.Mathlib.Omega.{arith}
 use Rattle.runner.proofs.RecordLaws.{zero_no, zero_yes, zero_end}
 use Rattle.runner.proofs.walk.all_zero.Goals as goal
 
-pub loop-i-init : goal.loop-i-init
-loop-i-init c = (omega arith, refl)
+pub returns-then-byte-ne0 : goal.returns-then-byte-ne0
+returns-then-byte-ne0 c = let a = c in sym (a.loop-byte.invariant ∙ zero_no a.args.bytes.now a.loop-byte.byte-index a.loop-byte-test.true c.if-byte-ne0.true)
 
-pub returns-then-bytes-i-ne0 : goal.returns-then-bytes-i-ne0
-returns-then-bytes-i-ne0 c = let a = c in sym (a.loop-i.invariant.1 ∙ zero_no a.args.bytes.now a.loop-i.i (omega arith) c.if-bytes-i-ne0.true)
-
-pub loop-i-preserved : goal.loop-i-preserved
-loop-i-preserved c = let a = c in (omega arith, a.loop-i.invariant.1 ∙ zero_yes a.args.bytes.now a.loop-i.i (omega arith) c.if-bytes-i-ne0.false)
+pub loop-byte-preserved : goal.loop-byte-preserved
+loop-byte-preserved c = let a = c in a.loop-byte.invariant ∙ zero_yes a.args.bytes.now a.loop-byte.byte-index a.loop-byte-test.true c.if-byte-ne0.false
 
 pub returns : goal.returns
-returns c = let a = c in sym (a.loop-i.invariant.1 ∙ zero_end a.args.bytes.now a.loop-i.i (omega arith))
+returns c = let a = c in sym (a.loop-byte.invariant ∙ zero_end a.args.bytes.now a.loop-byte.byte-index (omega arith))

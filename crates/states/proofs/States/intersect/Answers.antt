@@ -1,8 +1,9 @@
 -- `states::States::intersect` meets its contract: each bit of the result is set where both are. Assumes nothing.
+use mathlib.Core.Path.{◌≡◌, ◌∙◌}
 use mathlib.Core.Bool.{◌&&◌}
 use lib.Bits.{bit_and, and_lt}
 use Rattle.states.proofs.BitLaws.{bit_of_and}
-use Rattle.states.proofs.SetLaws.{Fitting, pointwise}
+use Rattle.states.proofs.SetLaws.{Fitting, by_word, pointwise}
 use borrow.Author.Rules.{rules}
 use Rattle.states.proofs.States.intersect.Goals as goal
 
@@ -11,4 +12,6 @@ returns c = let a = c.args.self in
     let b = c.args.other in
     let ha : Fitting a = search rules in
     let hb : Fitting b = search rules in
-    pointwise bit_and ◌&&◌ (λ x y k hx hy hk. bit_of_and x y k) (and_lt 64) a b ha hb
+    let words : c.zip.result ≡ by_word bit_and a b = search rules in
+    words
+    ∙ pointwise bit_and ◌&&◌ (λ x y k hx hy hk. bit_of_and x y k) (and_lt 64) a b ha hb

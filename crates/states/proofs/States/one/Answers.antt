@@ -2,7 +2,6 @@
 use Prim.Native.Nat.{◌/◌, ◌%◌}
 use mathlib.Core.Path.{◌≡◌, refl}
 use native.Mathlib.Omega.{arith}
-use Rattle.std.specs.Prelude.{if◌then◌else◌}
 use Rattle.states.specs.Sets.{word}
 use Rattle.states.proofs.BitLaws.{shifted_one}
 use Rattle.states.proofs.SetLaws.{four, one_is}

@@ -8,6 +8,6 @@ pub returns-then-all : goal.returns-then-all
 unfolding set_of
 returns-then-all c = sym (ap (λ (b : Bool). set_of (λ s. b)) c.if-all.true)
 
-pub returns : goal.returns
+pub returns-else-all : goal.returns-else-all
 unfolding set_of
-returns c = sym (ap (λ (b : Bool). set_of (λ s. b)) c.if-all.false)
+returns-else-all c = sym (ap (λ (b : Bool). set_of (λ s. b)) c.if-all.false)

@@ -6,13 +6,16 @@ use Rattle.reader.specs.Answers.{answer_of}
 use Rattle.runner.proofs.RecordLaws.{accepted_fits, loaded_accepted, loaded_refused}
 use Rattle.runner.proofs.calls.Record.begin.Goals as goal
 
-pub copied-sheet-requires : goal.copied-sheet-requires
-copied-sheet-requires c = accepted_fits _ (sym (ap answer_of c.in-Accepted.is) ∙ c.requires)
+pub copied-requires : goal.copied-requires
+unfolding answer_of
+copied-requires c = accepted_fits _ (sym (ap answer_of c.in-Ok.is) ∙ c.requires)
 
-pub returns-in-Refused : goal.returns-in-Refused
-returns-in-Refused c = let refuses = sym (ap answer_of c.in-Refused.is) ∙ c.requires in
-    (refuses, c.zero-kept.ensures ∙ sym (loaded_refused _ _ refuses))
+pub returns-in-Err : goal.returns-in-Err
+unfolding answer_of
+returns-in-Err c = let refuses = sym (ap answer_of c.in-Err.is) ∙ c.requires in
+    (c.requires, c.zero-kept.ensures ∙ sym (loaded_refused _ _ refuses))
 
-pub returns-in-Accepted : goal.returns-in-Accepted
-returns-in-Accepted c = let bytes = c.args.bytes.now in
-    (sym (ap answer_of c.in-Accepted.is) ∙ c.requires, sym (loaded_accepted bytes (sym (ap answer_of c.in-Accepted.is) ∙ c.requires) ∙ λ i. record { sheet = sym c.copied-sheet.ensures i; len = length bytes; replies = replicate most_acts 0; count = 0 }))
+pub returns-in-Ok : goal.returns-in-Ok
+unfolding answer_of
+returns-in-Ok c = let bytes = c.args.bytes.now in
+    (c.requires, sym (loaded_accepted bytes (sym (ap answer_of c.in-Ok.is) ∙ c.requires) ∙ λ i. record { sheet = sym c.copied.ensures i; len = length bytes; replies = replicate most_acts 0; count = 0 }))

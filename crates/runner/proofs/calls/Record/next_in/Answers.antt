@@ -5,4 +5,4 @@ use Rattle.runner.proofs.calls.Record.next_in.Goals as goal
 
 pub returns : goal.returns
 returns c = let stood = c.stand_in-walked.ensures in
-    (λ sized. told_is _ _ _ _ sized _ _ _ stood.1 _ stood.0 _ c.tell-answer.ensures, refl, stood.1)
+    (told_is _ _ _ _ (c.told-heads, c.told-nodes, c.told-sets) _ _ _ stood.1 _ stood.0 _ c.tell-answer.ensures, refl, stood.1)

@@ -1,14 +1,11 @@
 -- `Record::stand_in` meets its contract: a sheet that is padded is walked, another leads nowhere and leaves the tables as they were. Assumes nothing.
-use Prim.Native.Nat.{ℕ, ◌≤◌}
-use native.Mathlib.Omega.{arith}
+use Prim.Native.Nat.{ℕ}
 use mathlib.Core.Path.{sym, ap, ◌∙◌}
-use lib.ListN.{length}
-use lib.Seq.{length-take-le}
 use Rattle.format.specs.Format.{most_bytes}
 use Rattle.runner.specs.Records.{is_padded}
 use Rattle.runner.proofs.RecordLaws.{padded_within}
 use Rattle.runner.proofs.WalkLaws.{stands_not, stands_walked, unprepared, was_prepared}
-use Rattle.runner.proofs.Sizes.{sheet_size, replies_size}
+use Rattle.runner.proofs.Sizes.{sheet_size}
 use Rattle.runner.proofs.calls.Record.stand_in.Goals as goal
 
 pub returns-then-not-is_padded : goal.returns-then-not-is_padded
@@ -21,22 +18,11 @@ returns-then-not-is_padded c =
       unprepared start.args.self e _ _ _,
     )
 
-pub slice_bounds-sheet-end : goal.slice_bounds-sheet-end
-slice_bounds-sheet-end c =
+pub shared_ref_as_front-sheet : goal.shared_ref_as_front-sheet
+shared_ref_as_front-sheet c =
     let sized = sheet_size c.args.self _ c.well_formed.0 in
     let tested = c.is_padded.ensures ∙ ap (λ (n : ℕ). is_padded n c.args.self.sheet c.args.self.len) sized in
-    let within : c.args.self.len ≤ length c.args.self.sheet = omega (arith, padded_within most_bytes c.args.self.sheet c.args.self.len (sym tested ∙ c.if-not-is_padded.false), sized) in
-    within
-
-pub slice_bounds-walk-end : goal.slice_bounds-walk-end
-slice_bounds-walk-end c =
-    let sized = sheet_size c.args.self _ c.well_formed.0 in
-    let tested = c.is_padded.ensures ∙ ap (λ (n : ℕ). is_padded n c.args.self.sheet c.args.self.len) sized in
-    let within : c.args.self.len ≤ length c.args.self.sheet = omega (arith, padded_within most_bytes c.args.self.sheet c.args.self.len (sym tested ∙ c.if-not-is_padded.false), sized) in
-    sym (length-take-le _ _ within)
-
-pub walk-requires : goal.walk-requires
-walk-requires c = replies_size c.args.self _ c.well_formed.0
+    padded_within most_bytes c.args.self.sheet c.args.self.len (sym tested ∙ c.if-not-is_padded.false)
 
 pub returns : goal.returns
 returns c =
