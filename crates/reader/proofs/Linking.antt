@@ -7,6 +7,7 @@ use Rattle.states.proofs.Linking as states
 use Rattle.reader.proofs.TheLink as link
 use Rattle.reader.proofs.action_kind.Symbol as action_kind-symbol
 use Rattle.reader.proofs.bits.Packed.epistemic_node.Symbol as Packed_epistemic_node-symbol
+use Rattle.reader.proofs.bits.Packed.first_program_node.Symbol as first_program_node-symbol
 use Rattle.reader.proofs.bits.Packed.header.Symbol as Packed_header-symbol
 use Rattle.reader.proofs.bits.Packed.kind.Symbol as kind-symbol
 use Rattle.reader.proofs.bits.Packed.new.Symbol as new-symbol
@@ -38,6 +39,9 @@ module _ (W : World) (needs : Needs W) where
 
   pub Packed_epistemic_node_has : HasT (in_world W) true Packed_epistemic_node-symbol.code
   Packed_epistemic_node_has = link.linked-reader::bits::Packed::epistemic_node W needs.0 below
+
+  pub first_program_node_has : HasT (in_world W) true first_program_node-symbol.code
+  first_program_node_has = link.linked-reader::bits::Packed::first_program_node W needs.0 below
 
   pub Packed_header_has : HasT (in_world W) true Packed_header-symbol.code
   Packed_header_has = link.linked-reader::bits::Packed::header W needs.0 below

@@ -1,9 +1,10 @@
 -- Laws of a reader of a sheet, by what the code packs. Assumes nothing.
-use Prim.Native.Nat.{ℕ}
+use Prim.Native.Nat.{ℕ, ◌≤◌}
 use mathlib.Core.Path.{◌≡◌, sym, ap, ◌∙◌}
 use mathlib.Core.List.{List}
 use mathlib.Core.Bool.{Bool, true, false}
 use native.Mathlib.Omega.{arith}
+use borrow.Author.Tests.{le-leb}
 use lib.Dec.{leb}
 use lib.ListN.{length}
 use Rattle.std.specs.Prelude.{if◌then◌else◌}
@@ -41,3 +42,8 @@ module _ {A : Type 0} (m : Reader A) (bytes : List ℕ) (p : ℕ) where
   -- Packed bytes are a sheet's.
   pub packed_sheet : {kept : List ℕ} → gives kept ≡ packed bytes → m kept p ≡ of_sheet m kept p
   packed_sheet e = packed_given e ∙ ap (λ (x : List ℕ). of_sheet m x p) (sym (packed_is bytes e))
+
+  -- So are all that are few enough.
+  pub few_sheet : {kept : List ℕ} → kept ≡ bytes → length bytes ≤ most_bytes → of_sheet m kept p ≡ m bytes p
+  unfolding of_sheet
+  few_sheet {kept} same few = ap (λ (x : List ℕ). of_sheet m x p) same ∙ rw (le-leb (length bytes) most_bytes few)

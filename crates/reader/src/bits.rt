@@ -32,6 +32,14 @@ impl<'a> Packed<'a> {
         Ok(Packed { bytes })
     }
 
+    // The bytes, which are few enough.
+    pub(crate) fn bytes(&self) -> &'a [u8]
+        ensures value { result.now ≡ self.now }
+        ensures few { length self.now ≤ most_bytes }
+    {
+        self.bytes
+    }
+
     // The position behind the last bit.
     pub(crate) fn end(&self) -> usize
         ensures { result ≡ 8 * length self.now }

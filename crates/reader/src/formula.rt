@@ -98,6 +98,7 @@ fn is_theory(view: View) -> bool
 }
 
 // The states in which a formula of two parts holds, by those of its parts.
+#[inline(always)]
 fn joined(connective: Connective, a: States, b: States) -> States
     ensures { result ≡ set_of (λ s. joins connective (member a s) (member b s)) }
 {
@@ -122,25 +123,28 @@ pub(crate) fn evaluate(
         return Err(Refusal::Depth);
     }
     let (node, next) = attempt!(packed.objective_node(at));
-    match node {
-        ObjectiveNode::Constant(value) => Ok((States::uniform(value), next)),
-        ObjectiveNode::Fact => evaluate_fact(packed, next, n, false, view),
+    let joins = match node {
+        ObjectiveNode::Constant(value) => {
+            return Ok((States::uniform(value), next));
+        }
+        ObjectiveNode::Fact => {
+            return evaluate_fact(packed, next, n, false, view);
+        }
         ObjectiveNode::NewFact => {
             if is_theory(view) {
                 return evaluate_fact(packed, next, n, true, view);
             }
-            Err(Refusal::NewFact)
+            return Err(Refusal::NewFact);
         }
-        ObjectiveNode::Not => {
-            let (a, end) = attempt!(evaluate(packed, next, left - 1, n, view));
-            Ok((a.complement(), end))
-        }
-        ObjectiveNode::Two(connective) => {
-            let (a, second) = attempt!(evaluate(packed, next, left - 1, n, view));
-            let (b, end) = attempt!(evaluate(packed, second, left - 1, n, view));
-            Ok((joined(connective, a, b), end))
-        }
-    }
+        ObjectiveNode::Not => None,
+        ObjectiveNode::Two(connective) => Some(connective),
+    };
+    let (a, second) = attempt!(evaluate(packed, next, left - 1, n, view));
+    let Some(connective) = joins else {
+        return Ok((a.complement(), second));
+    };
+    let (b, end) = attempt!(evaluate(packed, second, left - 1, n, view));
+    Ok((joined(connective, a, b), end))
 }
 
 // An epistemic formula over n facts with `left` levels of depth left: where it ends.
@@ -181,18 +185,19 @@ pub(crate) fn read_objective(
     Ok(end)
 }
 
-impl<'a> Packed<'a> {
-    // The objective formula over n facts at a position: its set in a view, and the position after it.
-    pub fn objective(&self, at: usize, n: usize, view: View) -> Parsed<States>
-        ensures { found result ≡ mapped (states_in view) (objective n (in_theory view) deepest self.now at) }
-    {
-        evaluate(self, at, DEPTH, n, view)
-    }
-}
-
+// The objective formula over n facts at a position: its set in a view, and the position after it.
 pub fn objective_states(bytes: &[u8], at: usize, n: usize, view: View) -> Parsed<States>
     ensures { found result ≡ mapped (states_in view) (of_sheet (objective n (in_theory view) deepest) bytes.now at) }
 {
     let packed = attempt!(Packed::new(bytes));
-    packed.objective(at, n, view)
+    evaluate(&packed, at, DEPTH, n, view)
+}
+
+// The same of packed bytes, by a call, so that what is linked goes through both.
+impl<'a> Packed<'a> {
+    pub fn objective(&self, at: usize, n: usize, view: View) -> Parsed<States>
+        ensures { found result ≡ mapped (states_in view) (objective n (in_theory view) deepest self.now at) }
+    {
+        objective_states(self.bytes(), at, n, view)
+    }
 }

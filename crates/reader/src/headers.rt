@@ -39,28 +39,28 @@ fn header_behind(packed: &Packed, at: usize, edition: Edition, n: usize) -> Resu
     })
 }
 
-impl<'a> Packed<'a> {
-    // The header.
-    pub fn header(&self) -> Result<Header, Refusal>
-        ensures { header_is_read result ≡ mapped spaced (header_fields is_edition self.now 0) }
-    {
-        let (number, facts_at) = attempt!(self.field(0, 4));
-        let edition = attempt!(Edition::try_from(number));
-        let (n, at) = attempt!(self.field(facts_at, 4));
-        if n < 1 {
-            return Err(Refusal::Facts);
-        }
-        if FACTS < n {
-            return Err(Refusal::Facts);
-        }
-        header_behind(self, at, edition, n)
-    }
-}
-
 // The header of a sheet.
 pub fn header(bytes: &[u8]) -> Result<Header, Refusal>
     ensures { header_is_read result ≡ mapped spaced (of_sheet (header_fields is_edition) bytes.now 0) }
 {
     let packed = attempt!(Packed::new(bytes));
-    packed.header()
+    let (number, facts_at) = attempt!(packed.field(0, 4));
+    let edition = attempt!(Edition::try_from(number));
+    let (n, at) = attempt!(packed.field(facts_at, 4));
+    if n < 1 {
+        return Err(Refusal::Facts);
+    }
+    if FACTS < n {
+        return Err(Refusal::Facts);
+    }
+    header_behind(&packed, at, edition, n)
+}
+
+// The same of packed bytes, by a call, so that what is linked goes through both.
+impl<'a> Packed<'a> {
+    pub fn header(&self) -> Result<Header, Refusal>
+        ensures { header_is_read result ≡ mapped spaced (header_fields is_edition self.now 0) }
+    {
+        header(self.bytes())
+    }
 }

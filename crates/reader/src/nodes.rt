@@ -49,30 +49,67 @@ pub enum ProgramNode {
     Branch,
 }
 
+// The kind of the action at a position.
+pub fn action_kind(bytes: &[u8], at: usize) -> Parsed<ActionKind>
+    ensures { mapped kind_of (found result) ≡ of_sheet kind bytes.now at }
+{
+    let packed = attempt!(Packed::new(bytes));
+    let (bit, next) = attempt!(packed.field(at, 1));
+    if bit == 0 {
+        return Ok((ActionKind::Change, next));
+    }
+    Ok((ActionKind::Probe, next))
+}
+
+// The reply count at a position.
+pub fn reply_total(bytes: &[u8], at: usize) -> Parsed<usize>
+    ensures { found result ≡ of_sheet reply_total bytes.now at }
+{
+    let packed = attempt!(Packed::new(bytes));
+    let (m, next) = attempt!(packed.field(at, 4));
+    if m < 1 {
+        return Err(Refusal::Replies);
+    }
+    if REPLIES < m {
+        return Err(Refusal::Replies);
+    }
+    Ok((m, next))
+}
+
+// The first node of the epistemic formula at a position.
+pub fn epistemic_node(bytes: &[u8], at: usize) -> Parsed<EpistemicNode>
+    ensures { mapped epistemic_node_of (found result) ≡ of_sheet epistemic_node bytes.now at }
+{
+    let packed = attempt!(Packed::new(bytes));
+    let (tag, next) = attempt!(packed.field(at, 2));
+    match tag {
+        0 => Ok((EpistemicNode::Known, next)),
+        1 => Ok((EpistemicNode::NotKnown, next)),
+        2 => Ok((EpistemicNode::AllOf, next)),
+        _ => Ok((EpistemicNode::AnyOf, next)),
+    }
+}
+
+// The first node of the program at a position, with no action nodes and branch nodes before it.
+pub fn program_node(bytes: &[u8], at: usize) -> Parsed<ProgramNode>
+    ensures { mapped program_node_of (found result) ≡ of_sheet (program_node 0 0) bytes.now at }
+{
+    let packed = attempt!(Packed::new(bytes));
+    packed.program_node(at, 0, 0)
+}
+
+// Of packed bytes. What says the same is a call of the function over any bytes, so that what is linked goes through both.
 impl<'a> Packed<'a> {
-    // The kind of the action at a position.
     pub fn kind(&self, at: usize) -> Parsed<ActionKind>
         ensures { mapped kind_of (found result) ≡ kind self.now at }
     {
-        let (bit, next) = attempt!(self.field(at, 1));
-        if bit == 0 {
-            return Ok((ActionKind::Change, next));
-        }
-        Ok((ActionKind::Probe, next))
+        action_kind(self.bytes(), at)
     }
 
-    // The reply count at a position.
     pub fn reply_total(&self, at: usize) -> Parsed<usize>
         ensures { found result ≡ reply_total self.now at }
     {
-        let (m, next) = attempt!(self.field(at, 4));
-        if m < 1 {
-            return Err(Refusal::Replies);
-        }
-        if REPLIES < m {
-            return Err(Refusal::Replies);
-        }
-        Ok((m, next))
+        reply_total(self.bytes(), at)
     }
 
     // The first node of the objective formula at a position.
@@ -92,17 +129,17 @@ impl<'a> Packed<'a> {
         }
     }
 
-    // The first node of the epistemic formula at a position.
     pub fn epistemic_node(&self, at: usize) -> Parsed<EpistemicNode>
         ensures { mapped epistemic_node_of (found result) ≡ epistemic_node self.now at }
     {
-        let (tag, next) = attempt!(self.field(at, 2));
-        match tag {
-            0 => Ok((EpistemicNode::Known, next)),
-            1 => Ok((EpistemicNode::NotKnown, next)),
-            2 => Ok((EpistemicNode::AllOf, next)),
-            _ => Ok((EpistemicNode::AnyOf, next)),
-        }
+        epistemic_node(self.bytes(), at)
+    }
+
+    // With no action nodes and branch nodes before it.
+    pub fn first_program_node(&self, at: usize) -> Parsed<ProgramNode>
+        ensures { mapped program_node_of (found result) ≡ program_node 0 0 self.now at }
+    {
+        program_node(self.bytes(), at)
     }
 
     // The first node of the program at a position, where so many action nodes and branch nodes were read before it.
@@ -128,33 +165,4 @@ impl<'a> Packed<'a> {
         }
         Err(Refusal::Loop)
     }
-}
-
-pub fn action_kind(bytes: &[u8], at: usize) -> Parsed<ActionKind>
-    ensures { mapped kind_of (found result) ≡ of_sheet kind bytes.now at }
-{
-    let packed = attempt!(Packed::new(bytes));
-    packed.kind(at)
-}
-
-pub fn reply_total(bytes: &[u8], at: usize) -> Parsed<usize>
-    ensures { found result ≡ of_sheet reply_total bytes.now at }
-{
-    let packed = attempt!(Packed::new(bytes));
-    packed.reply_total(at)
-}
-
-pub fn epistemic_node(bytes: &[u8], at: usize) -> Parsed<EpistemicNode>
-    ensures { mapped epistemic_node_of (found result) ≡ of_sheet epistemic_node bytes.now at }
-{
-    let packed = attempt!(Packed::new(bytes));
-    packed.epistemic_node(at)
-}
-
-// With no action nodes and branch nodes before it.
-pub fn program_node(bytes: &[u8], at: usize) -> Parsed<ProgramNode>
-    ensures { mapped program_node_of (found result) ≡ of_sheet (program_node 0 0) bytes.now at }
-{
-    let packed = attempt!(Packed::new(bytes));
-    packed.program_node(at, 0, 0)
 }

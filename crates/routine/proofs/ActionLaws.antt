@@ -74,8 +74,7 @@ abbrev pub row_of : States → Objective → ℕ → States
 row_of space f s = set_of (λ t. member space s && member space t && truth f s t)
 
 module _ (space : States) (f : Objective) (s : ℕ) where
-  -- A state outside has none.
-  -- One inside has those that the theory allows.
+  -- A state inside has those that the theory allows.
   pub row_inside : {set : States} → member space s ≡ true → set ≡ states_in (View.Next s) f → set_of (λ t. member space t && member set t) ≡ row_of space f s
   unfolding states_in
   row_inside {set} e h =

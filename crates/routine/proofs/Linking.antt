@@ -20,7 +20,7 @@ Needs W = Holds W "routine" table × reader.Needs W × states.Needs W
 
 module _ (W : World) (needs : Needs W) where
   below : link.Below W
-  below = (reader.Packed_epistemic_node_has W needs.1, (reader.Packed_header_has W needs.1, (reader.kind_has W needs.1, (reader.new_has W needs.1, (reader.objective_has W needs.1, (reader.Packed_program_node_has W needs.1, (reader.Packed_reply_total_has W needs.1, (reader.read_has W needs.1, (states.at_has W needs.2, (states.empty_has W needs.2, (states.has_has W needs.2, (states.intersect_has W needs.2, (states.put_has W needs.2, (states.uniform_has W needs.2, tt))))))))))))))
+  below = (reader.Packed_epistemic_node_has W needs.1, (reader.first_program_node_has W needs.1, (reader.Packed_header_has W needs.1, (reader.kind_has W needs.1, (reader.new_has W needs.1, (reader.objective_has W needs.1, (reader.Packed_reply_total_has W needs.1, (reader.read_has W needs.1, (states.at_has W needs.2, (states.empty_has W needs.2, (states.has_has W needs.2, (states.intersect_has W needs.2, (states.put_has W needs.2, (states.uniform_has W needs.2, tt))))))))))))))
 
   pub head_at_has : HasT (in_world W) true head_at-symbol.code
   head_at_has = link.linked-routine::memory::head_at W needs.0 below

@@ -18,7 +18,7 @@ pub(crate) fn fill_program(
     requires { ProgramRoom packed.now n from }
     ensures { ProgramFills packed.now n from nodes.old nodes.new sets.old sets.new result }
 {
-    let Ok((first, p)) = packed.program_node(from.at, 0, 0) else {
+    let Ok((first, p)) = packed.first_program_node(from.at) else {
         return from;
     };
     match first {

@@ -6,11 +6,14 @@ use mathlib.Core.List.{List}
 use Rattle.states.specs.declared.States.{States}
 use Rattle.reader.specs.declared.formula.View.{View}
 use Rattle.reader.specs.declared.nodes.ObjectiveNode.{ObjectiveNode}
+use Rattle.reader.specs.declared.nodes.Connective.{Connective}
+use Rattle.std.proofs.Common.{Option, None, Some}
 use Rattle.format.specs.Format.{got, mapped, field, objective}
 use Rattle.format.proofs.ReaderLaws.{found_as, objective_none, objective_cut, objective_tag}
 use Rattle.reader.proofs.EvaluationLaws.{behind, set_constant, set_fact, set_new, set_outside, set_not, not_refused, set_two, first_refused, second_refused, from_of, to_of, read_true, facts_true}
 use Rattle.reader.specs.Answers.{number_of, found, in_theory, states_in}
 use Rattle.reader.specs.Method.{tag_of}
+use Rattle.reader.proofs.formula.+evaluate.Goals.{in-Not, in-Two}
 use Rattle.reader.proofs.formula.+evaluate.Goals as goal
 
 -- The formula's set is that which the first node and what stands behind it say.
@@ -51,56 +54,59 @@ returns-then-is_theory t c =
     let w = whole a.n a.left a.at a.packed.now a.view c.in-Ok.value.1 c.if-left-eq0.false c.in-Ok.ensures c.in-NewFact.is in
     c.evaluate_fact-then-is_theory.ensures ∙ facts_true a.view true _ ∙ sym (w ∙ set_new (from_of a.view) (to_of a.view) a.n (in_theory a.view) (objective a.n (in_theory a.view) (a.left - 1)) a.packed.now c.in-Ok.value.1 (sym c.is_theory.ensures ∙ c.if-is_theory.true))
 
-pub returns-else-is_theory : goal.returns-else-is_theory
+pub returns-in-NewFact : goal.returns-in-NewFact
 unfolding found number_of mapped
-returns-else-is_theory t c =
+returns-in-NewFact t c =
     let a = c.args in
     let w = whole a.n a.left a.at a.packed.now a.view c.in-Ok.value.1 c.if-left-eq0.false c.in-Ok.ensures c.in-NewFact.is in
     sym (w ∙ set_outside (from_of a.view) (to_of a.view) a.n (in_theory a.view) (objective a.n (in_theory a.view) (a.left - 1)) a.packed.now c.in-Ok.value.1 (sym c.is_theory.ensures ∙ c.if-is_theory.false))
+
+-- The first node of a formula with parts, by what joins two of them, if it has two.
+first_of : Option Connective → ObjectiveNode
+first_of None = ObjectiveNode.Not
+first_of (Some connective) = ObjectiveNode.Two connective
 
 pub returns-in-Err-evaluate : goal.returns-in-Err-evaluate
 unfolding found number_of mapped
 returns-in-Err-evaluate t c =
     let a = c.args in
-    let w = whole a.n a.left a.at a.packed.now a.view c.in-Ok.value.1 c.if-left-eq0.false c.in-Ok.ensures c.in-Not.is in
     let p = objective a.n (in_theory a.view) (a.left - 1) in
     let none = sym (read_true a.view (p a.packed.now c.in-Ok.value.1)) ∙ sym c.in-Err-evaluate.ensures in
-    sym (w ∙ not_refused (from_of a.view) (to_of a.view) a.n (in_theory a.view) p a.packed.now c.in-Ok.value.1 none)
+    elim c.match-node.branch [
+      | in-Not w ↦ sym (whole a.n a.left a.at a.packed.now a.view c.in-Ok.value.1 c.if-left-eq0.false c.in-Ok.ensures w.in-Not.is
+          ∙ not_refused (from_of a.view) (to_of a.view) a.n (in_theory a.view) p a.packed.now c.in-Ok.value.1 none)
+      | in-Two w ↦ sym (whole a.n a.left a.at a.packed.now a.view c.in-Ok.value.1 c.if-left-eq0.false c.in-Ok.ensures w.in-Two.is
+          ∙ first_refused (from_of a.view) (to_of a.view) a.n (in_theory a.view) p a.packed.now c.in-Ok.value.1 w.in-Two.connective none)
+    ]
 
-pub returns-in-Ok-evaluate : goal.returns-in-Ok-evaluate
-unfolding found number_of mapped
-returns-in-Ok-evaluate t c =
+pub returns-in_default : goal.returns-in_default
+unfolding first_of found number_of mapped
+returns-in_default t c =
     let a = c.args in
-    let w = whole a.n a.left a.at a.packed.now a.view c.in-Ok.value.1 c.if-left-eq0.false c.in-Ok.ensures c.in-Not.is in
+    let is : c.in-Ok.value.0 ≡ first_of c.match-node.joins = elim c.match-node.branch [ in-Not w ↦ w.in-Not.is ∙ ap first_of (sym w.joins-is) | in-Two w ↦ w.in-Two.is ∙ ap first_of (sym w.joins-is) ] in
+    let w = whole a.n a.left a.at a.packed.now a.view c.in-Ok.value.1 c.if-left-eq0.false c.in-Ok.ensures (is ∙ ap first_of c.in_default.is) in
     let p = objective a.n (in_theory a.view) (a.left - 1) in
     let f = sym (read_true a.view (p a.packed.now c.in-Ok.value.1)) ∙ sym c.in-Ok-evaluate.ensures in
     ap (λ (x : States). got x c.in-Ok-evaluate.value.1) c.complement.ensures ∙ sym (w ∙ set_not (from_of a.view) (to_of a.view) a.n (in_theory a.view) p a.packed.now c.in-Ok.value.1 f)
 
 pub returns-in-Err-evaluate-2 : goal.returns-in-Err-evaluate-2
-unfolding found number_of mapped
+unfolding first_of found number_of mapped
 returns-in-Err-evaluate-2 t c =
     let a = c.args in
-    let w = whole a.n a.left a.at a.packed.now a.view c.in-Ok.value.1 c.if-left-eq0.false c.in-Ok.ensures c.in-Two.is in
+    let is : c.in-Ok.value.0 ≡ first_of c.match-node.joins = elim c.match-node.branch [ in-Not w ↦ w.in-Not.is ∙ ap first_of (sym w.joins-is) | in-Two w ↦ w.in-Two.is ∙ ap first_of (sym w.joins-is) ] in
+    let w = whole a.n a.left a.at a.packed.now a.view c.in-Ok.value.1 c.if-left-eq0.false c.in-Ok.ensures (is ∙ ap first_of c.in-Some.is) in
     let p = objective a.n (in_theory a.view) (a.left - 1) in
-    let none = sym (read_true a.view (p a.packed.now c.in-Ok.value.1)) ∙ sym c.in-Err-evaluate-2.ensures in
-    sym (w ∙ first_refused (from_of a.view) (to_of a.view) a.n (in_theory a.view) p a.packed.now c.in-Ok.value.1 c.in-Two.connective none)
+    let f = sym (read_true a.view (p a.packed.now c.in-Ok.value.1)) ∙ sym c.in-Ok-evaluate.ensures in
+    let none = sym (read_true a.view (p a.packed.now c.in-Ok-evaluate.value.1)) ∙ sym c.in-Err-evaluate-2.ensures in
+    sym (w ∙ second_refused (from_of a.view) (to_of a.view) a.n (in_theory a.view) p a.packed.now c.in-Ok.value.1 c.in-Some.connective f none)
 
-pub returns-in-Err-evaluate-3 : goal.returns-in-Err-evaluate-3
-unfolding found number_of mapped
-returns-in-Err-evaluate-3 t c =
+pub returns : goal.returns
+unfolding first_of found number_of mapped
+returns t c =
     let a = c.args in
-    let w = whole a.n a.left a.at a.packed.now a.view c.in-Ok.value.1 c.if-left-eq0.false c.in-Ok.ensures c.in-Two.is in
+    let is : c.in-Ok.value.0 ≡ first_of c.match-node.joins = elim c.match-node.branch [ in-Not w ↦ w.in-Not.is ∙ ap first_of (sym w.joins-is) | in-Two w ↦ w.in-Two.is ∙ ap first_of (sym w.joins-is) ] in
+    let w = whole a.n a.left a.at a.packed.now a.view c.in-Ok.value.1 c.if-left-eq0.false c.in-Ok.ensures (is ∙ ap first_of c.in-Some.is) in
     let p = objective a.n (in_theory a.view) (a.left - 1) in
-    let f = sym (read_true a.view (p a.packed.now c.in-Ok.value.1)) ∙ sym c.in-Ok-evaluate-2.ensures in
-    let none = sym (read_true a.view (p a.packed.now c.in-Ok-evaluate-2.value.1)) ∙ sym c.in-Err-evaluate-3.ensures in
-    sym (w ∙ second_refused (from_of a.view) (to_of a.view) a.n (in_theory a.view) p a.packed.now c.in-Ok.value.1 c.in-Two.connective f none)
-
-pub returns-in-Ok-evaluate-3 : goal.returns-in-Ok-evaluate-3
-unfolding found number_of mapped
-returns-in-Ok-evaluate-3 t c =
-    let a = c.args in
-    let w = whole a.n a.left a.at a.packed.now a.view c.in-Ok.value.1 c.if-left-eq0.false c.in-Ok.ensures c.in-Two.is in
-    let p = objective a.n (in_theory a.view) (a.left - 1) in
-    let f = sym (read_true a.view (p a.packed.now c.in-Ok.value.1)) ∙ sym c.in-Ok-evaluate-2.ensures in
-    let s = sym (read_true a.view (p a.packed.now c.in-Ok-evaluate-2.value.1)) ∙ sym c.in-Ok-evaluate-3.ensures in
-    ap (λ (x : States). got x c.in-Ok-evaluate-3.value.1) c.joined.ensures ∙ sym (w ∙ set_two (from_of a.view) (to_of a.view) a.n (in_theory a.view) p a.packed.now c.in-Ok.value.1 c.in-Two.connective f s)
+    let f = sym (read_true a.view (p a.packed.now c.in-Ok.value.1)) ∙ sym c.in-Ok-evaluate.ensures in
+    let s = sym (read_true a.view (p a.packed.now c.in-Ok-evaluate.value.1)) ∙ sym c.in-Ok-evaluate-2.ensures in
+    ap (λ (x : States). got x c.in-Ok-evaluate-2.value.1) c.joined.ensures ∙ sym (w ∙ set_two (from_of a.view) (to_of a.view) a.n (in_theory a.view) p a.packed.now c.in-Ok.value.1 c.in-Some.connective f s)

@@ -13,4 +13,4 @@ returns-in-Err c = let a = c.args in
 pub returns : goal.returns
 unfolding answer_of
 returns c = let a = c.args in
-    c.objective.ensures ∙ ap (mapped (states_in a.view)) (packed_given (objective a.n (in_theory a.view) deepest) _ _ c.in-Ok.ensures)
+    c.evaluate.ensures ∙ ap (mapped (states_in a.view)) (packed_given (objective a.n (in_theory a.view) deepest) _ _ c.in-Ok.ensures)

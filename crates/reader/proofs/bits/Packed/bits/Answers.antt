@@ -1,4 +1,4 @@
--- `reader::bits` meets its contract: the bits of a field are cut out of the window at its first byte. Assumes nothing.
+-- `reader::Packed::bits` meets its contract: the bits of a field are cut out of the window at its first byte. Assumes nothing.
 use Rattle.reader.proofs.BitLaws.{window_field}
 use Rattle.reader.proofs.bits.Packed.bits.Goals as goal
 

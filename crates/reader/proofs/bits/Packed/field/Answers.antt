@@ -1,4 +1,4 @@
--- `reader::field_at` meets its contract. Assumes nothing.
+-- `reader::Packed::field` meets its contract. Assumes nothing.
 use Prim.Native.Nat.{◌+◌, ◌*◌}
 use lib.ListN.{length}
 use native.Mathlib.Omega.{arith}

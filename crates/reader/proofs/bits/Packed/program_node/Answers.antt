@@ -1,4 +1,4 @@
--- `reader::nodes::program_at` meets its contract: each return by the law of its case (FieldLaws of `format`). Assumes nothing.
+-- `reader::Packed::program_node` meets its contract: each return by the law of its case (FieldLaws of `format`). Assumes nothing.
 use mathlib.Core.Path.{sym}
 use borrow.Author.Tests.{eq-eqb, ne_eqb}
 use Rattle.format.proofs.FieldLaws.{program_cut, end_first, act_many, number_cut, act_first, branch_many, branch_first, loop_first}
