@@ -16,8 +16,12 @@ use Rattle.progression.specs.declared.place.Place.{Place}
 use Rattle.progression.specs.Machine.{settled, stepped}
 use Rattle.checker.specs.Shown.{end_fails, goes_on, shows_from, shows_by}
 
--- A trace's length: one above that of the longest trace, and an odd one that isn't.
+-- A trace's length: an even one, one above that of the longest trace, and any other.
 module _ (l : ℕ) where
+  pub even_length : (shows : Bool) → l % 2 ≡ 0 → is_trace_length l && shows ≡ false
+  unfolding is_trace_length
+  even_length shows e = rw e
+
   pub above_length : (shows : Bool) → longest_trace < l → is_trace_length l && shows ≡ false
   unfolding is_trace_length
   above_length shows h = rw (lt-leb l longest_trace h) (none (eqb (l % 2) 1))

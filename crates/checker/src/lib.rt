@@ -24,6 +24,10 @@ fn shows(
 ) -> bool
     ensures { result ≡ (is_trace_length (length trace.now) && shows_by heads.now nodes.now sets.now start trace.now) }
 {
+    // (First, so that a trace of even length takes no steps.)
+    if trace.len() % 2 == 0 {
+        return false;
+    }
     let [first, behind @ ..] = trace else {
         return false;
     };

@@ -9,8 +9,11 @@ use Rattle.semantics.specs.Verdict.{longest_trace}
 use Rattle.progression.specs.declared.place.Place.{Place}
 use Rattle.progression.specs.Machine.{Inside}
 use Rattle.checker.specs.Shown.{end_fails, shows_by}
-use Rattle.checker.proofs.TraceLaws.{above_length, trace_length, shows_nothing, behind_length, no_byte, no_start, starts, ends_before, other_action, no_step, goes_on_law, one_left, all_read}
+use Rattle.checker.proofs.TraceLaws.{even_length, above_length, trace_length, shows_nothing, behind_length, no_byte, no_start, starts, ends_before, other_action, no_step, goes_on_law, one_left, all_read}
 use Rattle.checker.proofs.shows.Goals as goal
+
+pub returns-then-trace-eq0 : goal.returns-then-trace-eq0
+returns-then-trace-eq0 c = sym (even_length _ _ c.if-trace-eq0.true)
 
 pub returns-in_default : goal.returns-in_default
 returns-in_default c = let a = c.args in
