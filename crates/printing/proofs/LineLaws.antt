@@ -11,7 +11,8 @@ use lib.ListN.{length, get_or, take, drop, set, length-append}
 use lib.Seq.{take-suc, take_all, drop-cons, length-take-le}
 use Rattle.std.proofs.lemmas.List.{take-append-drop}
 use Rattle.lists.specs.Lists.{write}
-use Rattle.std.specs.Prelude.{Result, Ok, Err, if◌then◌else◌}
+use Rattle.std.specs.Prelude.{Result, Ok, Err}
+use Rattle.std.specs.Borrow.{MutBor}
 use Rattle.format.specs.Format.{gives}
 use Rattle.reader.specs.Answers.{number_for}
 use Rattle.semantics.specs.Verdict.{invalid}
@@ -34,20 +35,21 @@ unfolding digit
 digit_high d h = rw (le-ltb d 10 h) (omega arith)
 
 -- One byte is written, and two parts one behind the other.
-pub one : (t : Text) (b : ℕ) → Room t (b ∷ []) → Appended t (record { bytes = set t.bytes t.length b; length = t.length + 1 }) (b ∷ [])
+pub one : (t : Text) (b : ℕ) → Room t (b ∷ []) → Appended t (record { bytes = record t.bytes { now = set t.bytes.now t.length b }; length = t.length + 1 }) (b ∷ [])
 unfolding write
-one t b h = record { longer = refl; written = refl; within = h.fits }
+one t b h = record { longer = refl; written = refl; within = h.fits; lent = refl }
 
 pub none : (t : Text) → t.length ≤ most_lines → Appended t t []
 unfolding write
-none t h = record { longer = omega arith; written = refl; within = h }
+none t h = record { longer = omega arith; written = refl; within = h; lent = refl }
 
 module _ {t u : Text} {xs : List ℕ} where
   pub on : {v : Text} {ys : List ℕ} → Appended t u xs → Appended u v ys → Appended t v (xs ++ ys)
   on {v} {ys} p q = record {
     longer = omega (arith, p.longer, q.longer, length-append xs ys);
-    written = written_on t.bytes u.bytes v.bytes t.length u.length xs ys p.written q.written (sym p.longer);
+    written = written_on t.bytes.now u.bytes.now v.bytes.now t.length u.length xs ys p.written q.written (sym p.longer);
     within = q.within;
+    lent = q.lent ∙ p.lent;
   }
 
   -- There is room for the second part behind the first.
@@ -83,13 +85,13 @@ module _ (shown : ℕ → List ℕ) (items : List ℕ) {t u : Text} (i : ℕ) wh
   all p l = subst (λ (xs : List ℕ). Appended t u (flat_map shown xs)) (take_all i items l) p
 
 -- The length of a number's decimal: one digit, one more, and at most so many.
-small_length : (n : ℕ) → n < 10 → length (decimal n) ≡ 1
+pub small_length : (n : ℕ) → n < 10 → length (decimal n) ≡ 1
 small_length n h = ap length (decimal_small n h)
 
-more_length : (n : ℕ) → 10 ≤ n → length (decimal n) ≡ length (decimal (n / 10)) + 1
+pub more_length : (n : ℕ) → 10 ≤ n → length (decimal n) ≡ length (decimal (n / 10)) + 1
 more_length n h = ap length (decimal_more n h) ∙ length-append (decimal (n / 10)) (digit (n % 10) ∷ [])
 
-decimal_length : (k n : ℕ) → n < 10 ^ suc k → length (decimal n) ≤ suc k
+pub decimal_length : (k n : ℕ) → n < 10 ^ suc k → length (decimal n) ≤ suc k
 decimal_length zero n h = omega (arith, small_length n h)
 decimal_length (suc k) n h =
     let p : 10 ^ suc (suc k) ≡ 10 ^ suc k * 10 = pow-suc 10 (suc k) in go (ltb n 10) refl (decimal_length k (n / 10) (omega arith))
@@ -101,25 +103,16 @@ decimal_length (suc k) n h =
 pub decimal_most : (n : ℕ) → n < 18446744073709551616 → length (decimal n) ≤ 20
 decimal_most n h = decimal_length 19 n (omega arith)
 
--- A number's decimal is its last digit behind the others, if there are any.
-abbrev pub higher : ℕ → List ℕ
-higher n = if ltb n 10 then [] else decimal (n / 10)
+-- A number's decimal is written: its one digit, or its last digit behind the others.
+pub decimal_one : (m : List ℕ) (at n d : ℕ) → n < 10 → d ≡ digit n → (at + 1 ≡ at + length (decimal n)) × (set m at d ≡ write m at (decimal n))
+unfolding write
+decimal_one m at n d h e = rw (decimal_small n h, e) (refl, refl)
 
-pub decimal_split : (n : ℕ) → decimal n ≡ higher n ++ (digit (n % 10) ∷ [])
-decimal_split n = go (ltb n 10) refl
-  where
-    go : (b : Bool) → ltb n 10 ≡ b → decimal n ≡ (if b then [] else decimal (n / 10)) ++ (digit (n % 10) ∷ [])
-    go true t = let l = ltb-true n 10 t in let e : n % 10 ≡ n = omega arith in rw e (decimal_small n l)
-    go false t = decimal_more n (ltb-false n 10 t)
-
-pub higher_none : (t : Text) (n : ℕ) → n < 10 → t.length ≤ most_lines → Appended t t (higher n)
-higher_none t n h k = rw (lt-ltb n 10 h) (none t k)
-
-pub higher_some : {t u : Text} (n : ℕ) → 10 ≤ n → Appended t u (decimal (n / 10)) → Appended t u (higher n)
-higher_some n h p = rw (le-ltb n 10 h) p
-
-pub higher_room : {t : Text} (n : ℕ) → 10 ≤ n → Room t (decimal n) → Room t (decimal (n / 10))
-higher_room n l h = ahead (decimal (n / 10)) (digit (n % 10) ∷ []) (rw (decimal_more n l) at h)
+pub decimal_behind : (m u : List ℕ) (at last n d : ℕ) → 10 ≤ n → (last ≡ at + length (decimal (n / 10))) × (u ≡ write m at (decimal (n / 10))) → d ≡ digit (n % 10)
+    → (last + 1 ≡ at + length (decimal n)) × (set u last d ≡ write m at (decimal n))
+unfolding write
+decimal_behind m u at last n d h p e =
+    (omega (arith, more_length n h, p.0), rw (decimal_more n h, ← e) (written_on m u (set u last d) at last (decimal (n / 10)) (d ∷ []) p.1 refl (sym p.0)))
 
 -- Bytes in hexadecimal and decimals with single spaces are the first, and each other behind a space.
 abbrev pub hexadecimal_behind : ℕ → List ℕ
@@ -159,7 +152,7 @@ spaced_none t [] h k = none t (omega (arith, k.fits))
 spaced_none t (x ∷ xs) h k = absurd (omega arith)
 
 -- How long they are.
-hexadecimal_length : (xs : List ℕ) → 0 < length xs → length (hexadecimal xs) + 1 ≡ 3 * length xs
+pub hexadecimal_length : (xs : List ℕ) → 0 < length xs → length (hexadecimal xs) + 1 ≡ 3 * length xs
 unfolding hexadecimal
 hexadecimal_length [] h = absurd (omega arith)
 hexadecimal_length (x ∷ []) h = refl
@@ -208,8 +201,8 @@ module _ (numbers : List ℕ) (few : length numbers ≤ 6) (small : (i : ℕ) �
   end_room b p = record { fits = omega (arith, p.longer, spaced_length numbers small) }
 
 -- The line of numbers.
-pub line_written : (out numbers : List ℕ) (u v : Text) → Appended (record { bytes = out; length = 0 }) u (spaced numbers) → Appended u v end_line
-    → (v.length ≡ length (numbers_line numbers)) × (v.bytes ≡ write out 0 (numbers_line numbers)) × (v.length ≤ most_lines)
+pub line_written : (out : MutBor (List ℕ)) (numbers : List ℕ) (u v : Text) → Appended (record { bytes = out; length = 0 }) u (spaced numbers) → Appended u v end_line
+    → (v.length ≡ length (numbers_line numbers)) × (v.bytes.now ≡ write out.now 0 (numbers_line numbers)) × (v.length ≤ most_lines)
 unfolding numbers_line
 line_written out numbers u v p q = let r = on p q in (omega (arith, r.longer), r.written, r.within)
 

@@ -11,6 +11,7 @@ use Rattle.semantics.specs.Printing.{printed_for, printed}
 use Rattle.semantics.proofs.MemoryLaws.{verified_accepted, verified_refused, begins, invalid_short}
 use Rattle.lists.specs.Lists.{write}
 use Rattle.std.specs.Prelude.{Result, Ok, Err}
+use Rattle.std.specs.Borrow.{MutBor}
 use Rattle.verifier.specs.declared.verdict.Verdict.{Verdict}
 use Rattle.verifier.specs.declared.verdict.VerifyError.{VerifyError}
 use Rattle.verifier.specs.Answers.{answer_of}
@@ -55,6 +56,6 @@ module _ (bytes old : List ℕ) (enough : LongEnough old) where
     prints : printed_for (answer_of r) (shown_in (answer_of r) memory) ≡ printed bytes
     prints = ap₂ (λ (a : Answer Meant) (m : List ℕ). printed_for a (shown_in a m)) answered kept ∙ said_printed
 
-    pub lines_printed : (out : List ℕ) (text : Text) → Appended (record { bytes = out; length = 0 }) text (printed_for (answer_of r) (shown_in (answer_of r) memory))
-        → (text.length ≡ length (printed bytes)) × (text.bytes ≡ write out 0 (printed bytes))
-    lines_printed out text p = (omega (arith, p.longer, ap length prints), p.written ∙ ap (write out 0) prints)
+    pub lines_printed : (out : MutBor (List ℕ)) (text : Text) → Appended (record { bytes = out; length = 0 }) text (printed_for (answer_of r) (shown_in (answer_of r) memory))
+        → (text.length ≡ length (printed bytes)) × (text.bytes.now ≡ write out.now 0 (printed bytes))
+    lines_printed out text p = (omega (arith, p.longer, ap length prints), p.written ∙ ap (write out.now 0) prints)

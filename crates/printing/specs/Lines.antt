@@ -12,11 +12,12 @@ use Rattle.printing.specs.declared.text.Text.{Text}
 pub record Room (text : Text) (bytes : List ℕ) : Type 0 where
   pub fits : text.length + length bytes ≤ most_lines
 
--- Bytes are written behind a text, and nothing else is; it still lies within its memory.
+-- Bytes are written behind a text, and nothing else is; it still lies within its memory, which is the one that was lent.
 pub record Appended (before after : Text) (bytes : List ℕ) : Type 0 where
   pub longer : after.length ≡ before.length + length bytes
-  pub written : after.bytes ≡ write before.bytes before.length bytes
+  pub written : after.bytes.now ≡ write before.bytes.now before.length bytes
   pub within : after.length ≤ most_lines
+  pub lent : after.bytes.ghost_name ≡ before.bytes.ghost_name
 
 -- The trace that an answer shows, out of the trace memory after the call: "1 + 2L bytes".
 unfoldable pub shown_in : Answer Meant → (memory : List ℕ) → List ℕ

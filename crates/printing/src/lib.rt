@@ -43,11 +43,10 @@ pub fn print(bytes: &[u8], out: &mut [u8; LINES]) -> usize
     let mut trace = [0u8; TRACE];
     let answer = verify(bytes, BUDGET, &mut trace);
     let mut text = Text {
-        bytes: *out,
+        bytes: out,
         length: 0,
     };
     put_lines(&mut text, answer, &trace);
-    *out = text.bytes;
     text.length
 }
 
@@ -56,11 +55,10 @@ pub fn print_figures(figures: [u64; FIGURES], out: &mut [u8; LINES]) -> usize
     ensures { (result ≡ length (numbers_line figures)) × (out.new ≡ write out.old 0 (numbers_line figures)) × (result ≤ most_lines) }
 {
     let mut text = Text {
-        bytes: *out,
+        bytes: out,
         length: 0,
     };
     text.numbers(&figures);
     text.push(b'\n');
-    *out = text.bytes;
     text.length
 }

@@ -2,7 +2,8 @@
 ghost use Rattle.std.specs.Prelude.{◌≡◌, [], ◌∷◌, ◌++◌, ◌+◌, ◌*◌, ◌≤◌, ◌<◌, length, take};
 ghost use Rattle.format.specs.Format.{gives};
 ghost use Rattle.semantics.specs.Verdict.{invalid};
-ghost use Rattle.semantics.specs.Printing.{digit as digit_of, decimal, hexadecimal, behind_space, spaced, end_line, printed_for};
+ghost use Rattle.semantics.specs.Printing.{digit as digit_of, decimal, hexadecimal, behind_space, spaced, end_line, printed_for, most_lines};
+ghost use Rattle.lists.specs.Lists.{write};
 ghost use Rattle.printing.specs.Lines.{Room, Appended};
 
 use crate::LINES;
@@ -18,15 +19,29 @@ fn digit(d: u8) -> u8
     b'a' + (d - 10)
 }
 
-// The first `length` bytes are the text. (No heap: the memory is fixed. It is a copy of the lent one: with a `&mut` in the struct
-// every clause would say besides which memory it gives back.)
-#[derive(Clone, Copy)]
-pub struct Text {
-    pub bytes: [u8; LINES],
+// Writes a number in decimal from a place on, and gives the place behind it. (No method of `Text`: there each digit would wait until
+// the one before it has stored the length.)
+fn put_decimal(bytes: &mut [u8; LINES], at: usize, n: u64) -> usize
+    requires { at + length (decimal n) ≤ most_lines }
+    ensures { (result ≡ at + length (decimal n)) × (bytes.new ≡ write bytes.old at (decimal n)) }
+{
+    if n < 10 {
+        bytes[at] = digit(n as u8);
+        return at + 1;
+    }
+    let last = put_decimal(bytes, at, n / 10);
+    bytes[last] = digit((n % 10) as u8);
+    last + 1
+}
+
+// The first `length` bytes are the text. (No heap: the memory is lent. `Appended` says besides that it stays the lent one.)
+#[derive(Drop)]
+pub struct Text<'a> {
+    pub bytes: &'a mut [u8; LINES],
     pub length: usize,
 }
 
-impl Text {
+impl Text<'_> {
     // Writes a byte.
     pub(crate) fn push(&mut self, byte: u8)
         requires { Room self.old (byte ∷ []) }
@@ -51,10 +66,7 @@ impl Text {
         requires { Room self.old (decimal n) }
         ensures { Appended self.old self.new (decimal n) }
     {
-        if n >= 10 {
-            self.decimal(n / 10);
-        }
-        self.push(digit((n % 10) as u8));
+        self.length = put_decimal(self.bytes, self.length, n);
     }
 
     // Writes a number in decimal behind a space.

@@ -2,6 +2,7 @@
 use Prim.Native.Nat.{ℕ}
 use mathlib.Core.Path.{refl}
 use native.Mathlib.Omega.{arith}
+use borrow.Author.Rules.{rules}
 use lib.ListN.{replicate, length-replicate}
 use Rattle.semantics.specs.Verdict.{longest_trace, LongEnough}
 use Rattle.verifier.proofs.AnswerLaws.{parts}
@@ -21,4 +22,4 @@ pub returns : goal.returns
 returns c =
     let v = parts _ _ _ c.verify-answer.ensures in
     let q = lines_printed _ _ enough _ _ v.0 v.1 _ _ c.put_lines.ensures in
-    (q.0, q.1, c.put_lines.ensures.within)
+    (q.0, search (rules, q.1), c.put_lines.ensures.within)

@@ -11,4 +11,6 @@ pub push-requires : goal.push-requires
 push-requires c = end_room _ (search rules) (λ i. search rules) refl _ c.numbers.ensures
 
 pub returns : goal.returns
-returns c = line_written _ _ _ _ c.numbers.ensures c.push.ensures
+returns c =
+    let q = line_written _ _ _ _ c.numbers.ensures c.push.ensures in
+    (q.0, search (rules, q.1), q.2)
