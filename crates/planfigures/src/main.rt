@@ -126,7 +126,7 @@ fn put_line(stdout: Stdout, input: io::Result<Input>, line: &[u8]) -> io::Result
     stdout.write_all(line)
 }
 
-// Nothing is left to do where standard error can't be written.
+// Reads the input and writes the answer. Where standard error can't be written either, nothing is left to do.
 fn main(rt: HostRuntime) {
     let mut tables = Tables {
         heads: [0; HEAD_CELLS],

@@ -71,7 +71,7 @@ fn put_lines(stdout: Stdout, input: io::Result<usize>, sheet: &[u8], lines: &[u8
     stdout.write_all(lines)
 }
 
-// Nothing is left to do where standard error can't be written.
+// Reads the input and writes the answer. Where standard error can't be written either, nothing is left to do.
 fn main(rt: HostRuntime) {
     let mut sheet = [0u8; MOST];
     let mut out = [0u8; LINES];
